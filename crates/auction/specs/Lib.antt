@@ -5,4 +5,3 @@ pub mod Orders
 pub mod Hours
 pub mod Questions
 pub mod Rules
-pub mod Laws

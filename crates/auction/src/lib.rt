@@ -1,8 +1,7 @@
-//! What an hour of the zonal auction means, and the three laws that hold of every sheet that breaks no rule.
+//! What an hour of the zonal auction means: see specs/. Here are the questions put to a command, with their numbers.
 
 ghost use mathlib.Core.Path.{_≡_};
 ghost use Rattle.auction.specs.Questions.{question-number, rule-number};
-ghost use Rattle.auction.specs.Laws.{Balance-law, Interchange-law, Optimality-law};
 
 /// The rules of a sheet, in the order in which they are put.
 #[derive(Clone, Copy, PartialEq, Eq, Debug)]
@@ -108,18 +107,3 @@ impl Refusal {
         Refusal { question, place }
     }
 }
-
-/// No other dispatch of the standing orders that is balanced and within all limits is worth more than an accepted one.
-pub fn optimality_stands()
-    ensures { λ _. ⌜ Optimality-law ⌝ }
-{}
-
-/// The amounts of the two houses at an accepted sheet add up to its congestion rent.
-pub fn balance_stands()
-    ensures { λ _. ⌜ Balance-law ⌝ }
-{}
-
-/// Two accepted sheets of one hour have equal welfare, and each accepts the other's prices.
-pub fn interchange_stands()
-    ensures { λ _. ⌜ Interchange-law ⌝ }
-{}
