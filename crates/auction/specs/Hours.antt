@@ -85,4 +85,4 @@ amount g b d p house = negℤ (over-orders b d (λ e q. cond (eqb (e .house) hou
 pub record Feasible (g : Grid) (b : Book) (d : Dispatch) : Type 0 where
   pub possible : (l n : ℕ) → n < length (listAt b l) → Takes (entryAt b l n) (d l n)
   pub balanced : Balanced g b d
-  pub within : (l : ℕ) → Within-limit (limitAt g l) (flow g b d l)
+  pub within : (l : ℕ) → l < line-count g → Within-limit (limitAt g l) (flow g b d l)

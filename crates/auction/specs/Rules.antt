@@ -8,7 +8,7 @@ use Rattle.auction.specs.declared.Rule.{Rule}
 use Rattle.auction.specs.declared.Rule.the-variants.{Quantity, Balance, Flow, ZonePrice, Binding, Contentment}
 use Rattle.auction.specs.Questions.{rule-number}
 use Rattle.auction.specs.Limits.{Within-limit, Binds}
-use Rattle.auction.specs.Grids.{Grid, limitAt}
+use Rattle.auction.specs.Grids.{Grid, line-count, limitAt}
 use Rattle.auction.specs.Orders.{Content}
 use Rattle.auction.specs.Hours.{Book, Dispatch, Prices, listAt, entryAt, Takes, Balanced, flow, zone-price, zone-prices}
 
@@ -16,9 +16,9 @@ use Rattle.auction.specs.Hours.{Book, Dispatch, Prices, listAt, entryAt, Takes
 abbrev pub Met : Grid → Book → Dispatch → Prices → Rule → ℕ → ℕ → Type 0
 Met g b d p Quantity l n = n < length (listAt b l) → Takes (entryAt b l n) (d l n)
 Met g b d p Balance _ _ = Balanced g b d
-Met g b d p Flow l _ = Within-limit (limitAt g l) (flow g b d l)
-Met g b d p ZonePrice z _ = natAbs (zone-price g p z) ≤ 500000000
-Met g b d p Binding l _ = Binds (limitAt g l) (p .shadow l) (flow g b d l)
+Met g b d p Flow l _ = l < line-count g → Within-limit (limitAt g l) (flow g b d l)
+Met g b d p ZonePrice z _ = z < g .zones → natAbs (zone-price g p z) ≤ 500000000
+Met g b d p Binding l _ = l < line-count g → Binds (limitAt g l) (p .shadow l) (flow g b d l)
 Met g b d p Contentment l n = n < length (listAt b l) → entryAt b l n .standing ≡ true → Content (zone-prices g p) (entryAt b l n .order) (d l n)
 
 -- a sheet that breaks no rule

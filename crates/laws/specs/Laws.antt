@@ -20,7 +20,6 @@ Two-houses b = (l n : ℕ) → n < length (listAt b l) → entryAt b l n .house 
 abbrev pub Balance-law : Type 0
 Balance-law = (g : Grid) (b : Book) (d : Dispatch) (p : Prices) → Accepted g b d p → Two-houses b → amount g b d p 0 +ℤ amount g b d p 1 ≡ rent g p
 
--- two accepted sheets have equal welfare, and the quantities of the one with the prices of the other break no rule
--- (for the other pair, take the two sheets the other way round)
+-- two accepted sheets have equal welfare, and the quantities of either with the prices of the other break no rule
 abbrev pub Interchange-law : Type 0
-Interchange-law = (g : Grid) (b : Book) (d other-d : Dispatch) (p other-p : Prices) → Accepted g b d p → Accepted g b other-d other-p → (welfare b d ≡ welfare b other-d) × Accepted g b d other-p
+Interchange-law = (g : Grid) (b : Book) (d other-d : Dispatch) (p other-p : Prices) → Accepted g b d p → Accepted g b other-d other-p → (welfare b d ≡ welfare b other-d) × Accepted g b d other-p × Accepted g b other-d p
