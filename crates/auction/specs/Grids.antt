@@ -5,7 +5,7 @@ use mathlib.Core.List.{List}
 use lib.Dec.{ltb}
 use lib.IntN.{ℤ, pos}
 use lib.ListN.{length, getD}
-use Rattle.auction.specs.Limits.{Limit, no-capacity}
+use Rattle.auction.specs.Limits.{Limit, zero-limit}
 
 -- A line has a limit, and for each zone a sensitivity: of each kWh fed into that zone, so many thousandths flow over the line.
 pub record Line : Type 0 where
@@ -18,7 +18,7 @@ pub record Grid : Type 0 where
 
 -- what is read of a line that is not there
 abbrev pub no-line : Line
-no-line = record { limit = no-capacity; sensitivity = λ _. pos 0 }
+no-line = record { limit = zero-limit; sensitivity = λ _. pos 0 }
 
 abbrev pub line-count : Grid → ℕ
 line-count g = length (g .lines)

@@ -53,15 +53,15 @@ abbrev pub Takes : Entry → ℕ → Type 0
 Takes e q = When (e .standing) (Possible (e .order) q) (q ≡ 0)
 
 -- the sum of the worths, in thousandths of a cent
-unfoldable pub welfare : Book → Dispatch → ℤ
-welfare b d = over-orders b d (λ e q. e .order .worth q)
+unfoldable pub welfare-of : Book → Dispatch → ℤ
+welfare-of b d = over-orders b d (λ e q. e .order .worth q)
 
 unfoldable pub net-injection : Book → Dispatch → ℕ → ℤ
 net-injection b d z = over-orders b d (λ e q. e .order .injection q z)
 
--- in thousandths of a kWh
-unfoldable pub flow : Grid → Book → Dispatch → ℕ → ℤ
-flow g b d l = Σ (g .zones) (λ z. sensitivityAt g l z *ℤ net-injection b d z)
+-- the flow over a line, in thousandths of a kWh
+unfoldable pub flow-over : Grid → Book → Dispatch → ℕ → ℤ
+flow-over g b d l = Σ (g .zones) (λ z. sensitivityAt g l z *ℤ net-injection b d z)
 
 unfoldable pub Balanced : Grid → Book → Dispatch → Type 0
 Balanced g b d = Σ (g .zones) (net-injection b d) ≡ pos 0
@@ -73,16 +73,28 @@ zone-price g p z = cond (ltb z (g .zones)) (p .lambda -ℤ Σ (line-count g) (λ
 abbrev pub zone-prices : Grid → Prices → ZonePrices
 zone-prices g p = record { zones = g .zones; at = zone-price g p }
 
--- the congestion rent, in millionths of a cent
-unfoldable pub rent : Grid → Prices → ℤ
-rent g p = Σ (line-count g) (λ l. line-rent (limitAt g l) (p .shadow l))
+-- each line's shadow price times its limit, in millionths of a cent
+unfoldable pub exact-rent : Grid → Prices → ℤ
+exact-rent g p = Σ (line-count g) (λ l. line-rent (limitAt g l) (p .shadow l))
 
--- what a house pays, in millionths of a cent; it is paid where this is negative
-unfoldable pub amount : Grid → Book → Dispatch → Prices → ℕ → ℤ
-amount g b d p house = negℤ (over-orders b d (λ e q. cond (eqb (e .house) house) (proceeds (zone-prices g p) (e .order) q) (pos 0)))
+-- the congestion rent of a sheet
+abbrev pub rent-of : Grid → Book → Dispatch → Prices → ℤ
+rent-of g b d p = exact-rent g p
+
+-- what one order pays for q at the sheet's prices, in millionths of a cent
+abbrev pub charge : Grid → Prices → Entry → ℕ → ℤ
+charge g p e q = negℤ (proceeds (zone-prices g p) (e .order) q)
+
+-- what a house pays for all its orders; it is paid where this is negative
+unfoldable pub amount-of : Grid → Book → Dispatch → Prices → ℕ → ℤ
+amount-of g b d p house = over-orders b d (λ e q. cond (eqb (e .house) house) (charge g p e q) (pos 0))
+
+-- every order belongs to house 0 or house 1
+abbrev pub Two-houses : Book → Type 0
+Two-houses b = (l n : ℕ) → n < length (listAt b l) → entryAt b l n .house < 2
 
 -- a dispatch that gives each order what is possible for it, is balanced, and keeps all flows within their limits
 pub record Feasible (g : Grid) (b : Book) (d : Dispatch) : Type 0 where
   pub possible : (l n : ℕ) → n < length (listAt b l) → Takes (entryAt b l n) (d l n)
   pub balanced : Balanced g b d
-  pub within : (l : ℕ) → l < line-count g → Within-limit (limitAt g l) (flow g b d l)
+  pub within : (l : ℕ) → l < line-count g → Within-limit (limitAt g l) (flow-over g b d l)

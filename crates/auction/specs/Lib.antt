@@ -1,7 +1,7 @@
 pub mod Sums
-pub mod Grids
 pub mod Limits
+pub mod Grids
 pub mod Orders
 pub mod Hours
-pub mod Questions
+pub mod Refusals
 pub mod Rules

@@ -1,5 +1,5 @@
 -- What a line's limit means: for the flow over it, for a shadow price on it, and for the congestion rent.
-use Prim.Native.Nat.{ℕ, _*_, _<_}
+use Prim.Native.Nat.{ℕ, _*_, _-_, _≤_, _<_}
 use mathlib.Core.Path.{_≡_}
 use lib.IntN.{ℤ, pos}
 use lib.Signed.{_≤ℤ_}
@@ -8,18 +8,25 @@ use lib.Signed.{_≤ℤ_}
 abbrev pub Limit : Type 0
 Limit = ℕ
 
-abbrev pub no-capacity : Limit
-no-capacity = 0
+abbrev pub Limit-in-range : Limit → Type 0
+Limit-in-range limit = limit ≤ 10000000
+
+-- the limit that is read of a line that is not there
+abbrev pub zero-limit : Limit
+zero-limit = 0
+
+-- what is left of a limit when some kWh are held back; never below 0
+abbrev pub lowered : Limit → ℕ → Limit
+lowered limit held = limit - held
 
 -- the limit in the unit of flows, thousandths of a kWh
 abbrev pub capacity : Limit → ℤ
 capacity limit = pos (1000 * limit)
 
--- a flow within its limit
 abbrev pub Within-limit : Limit → ℤ → Type 0
 Within-limit limit flow = flow ≤ℤ capacity limit
 
--- a positive shadow price wants a line that is full
+-- a positive shadow price wants a flow that is at its limit
 abbrev pub Binds : Limit → ℕ → ℤ → Type 0
 Binds limit shadow flow = 0 < shadow → flow ≡ capacity limit
 

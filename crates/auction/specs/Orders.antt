@@ -16,10 +16,10 @@ pub record Order : Type 0 where
 abbrev pub Possible : Order → ℕ → Type 0
 Possible o q = q ≤ o .largest
 
--- What every kind of order owes.
+-- What every kind of order owes. Its last zone is the one that it names; a kind is free to name a higher one than it feeds or takes from.
 pub record Sound (o : Order) : Type 0 where
-  pub some : 0 < o .largest
-  pub most : o .largest ≤ 10000000
+  pub largest-positive : 0 < o .largest
+  pub largest-in-range : o .largest ≤ 10000000
   pub nothing-is-worth-nothing : o .worth 0 ≡ pos 0
   pub nothing-feeds-nothing : (z : ℕ) → o .injection 0 z ≡ pos 0
   pub worth-in-range : (q : ℕ) → Possible o q → natAbs (o .worth q) ≤ 500000 * q
@@ -31,11 +31,14 @@ pub record ZonePrices : Type 0 where
   pub zones : ℕ
   pub at : ℕ → ℤ
 
+abbrev pub Zone-price-in-range : ℤ → Type 0
+Zone-price-in-range price = natAbs price ≤ 500000000
+
 -- what its injections of q are paid at the zone prices, in millionths of a cent
 abbrev pub proceeds : ZonePrices → Order → ℕ → ℤ
 proceeds r o q = Σ (r .zones) (λ z. r .at z *ℤ o .injection q z)
 
--- the worth of q in the unit of money, millionths of a cent
+-- the worth of q in the unit in which it is paid, millionths of a cent; that unit goes with the prices
 abbrev pub worth-in-money : ZonePrices → Order → ℕ → ℤ
 worth-in-money r o q = pos 1000 *ℤ o .worth q
 

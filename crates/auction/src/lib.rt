@@ -1,109 +1,138 @@
-//! What an hour of the zonal auction means: see specs/. Here are the questions put to a command, with their numbers.
+//! What an hour of the zonal auction means: see specs/. Here is why a command is refused: the question that got a no, with its number and its place.
 
 ghost use mathlib.Core.Path.{_≡_};
-ghost use Rattle.auction.specs.Questions.{question-number, rule-number};
+ghost use Rattle.auction.specs.Refusals.{broken-number, broken-place, refusal-number, refusal-place, refusal-of};
+ghost use Rattle.auction.specs.declared.Refusal.the-variants.{Sheet};
 
-/// The rules of a sheet, in the order in which they are put.
+/// The rule of the sheet that is broken first, and where.
 #[derive(Clone, Copy, PartialEq, Eq, Debug)]
-pub enum Rule {
-    /// Each order takes a quantity that is possible for it, and a withdrawn one takes nothing.
-    Quantity,
-    /// The net injections add up to 0.
+pub enum Broken {
+    /// An order takes a quantity that is not possible for it, or a withdrawn one takes something.
+    Quantity { list: u8, number: u16 },
+    /// The net injections do not add up to 0.
     Balance,
-    /// Each flow is within its line's limit.
-    Flow,
-    /// Each zone price is in range.
-    ZonePrice,
-    /// A line with a positive shadow price is full.
-    Binding,
-    /// Each standing order is content with its quantity.
-    Contentment,
+    /// A flow is beyond its line's limit.
+    Flow { line: u8 },
+    /// A zone price is out of range.
+    ZonePrice { zone: u8 },
+    /// A line with a positive shadow price is not at its limit.
+    Binding { line: u8 },
+    /// A standing order is not content with its quantity.
+    Contentment { list: u8, number: u16 },
 }
 
-impl Rule {
+impl Broken {
     /// The number under which a broken rule is reported.
     pub fn number(self) -> u8
-        ensures { λ r. ⌜ r ≡ rule-number self ⌝ }
+        ensures { λ r. ⌜ r ≡ broken-number self ⌝ }
     {
         match self {
-            Rule::Quantity => 10,
-            Rule::Balance => 11,
-            Rule::Flow => 12,
-            Rule::ZonePrice => 13,
-            Rule::Binding => 14,
-            Rule::Contentment => 15,
+            Broken::Quantity { .. } => 10,
+            Broken::Balance => 11,
+            Broken::Flow { .. } => 12,
+            Broken::ZonePrice { .. } => 13,
+            Broken::Binding { .. } => 14,
+            Broken::Contentment { .. } => 15,
+        }
+    }
+
+    /// The two numbers of its place.
+    pub fn place(self) -> (u16, u16)
+        ensures { λ r. ⌜ r ≡ broken-place self ⌝ }
+    {
+        match self {
+            Broken::Quantity { list, number } => (list as u16, number),
+            Broken::Balance => (0, 0),
+            Broken::Flow { line } => (line as u16, 0),
+            Broken::ZonePrice { zone } => (zone as u16, 0),
+            Broken::Binding { line } => (line as u16, 0),
+            Broken::Contentment { list, number } => (list as u16, number),
         }
     }
 }
 
-/// The questions put to a command, in their order; the first that gets a no is the reason of a refusal.
+/// Why a command is refused, in the order in which the questions are put.
 #[derive(Clone, Copy, PartialEq, Eq, Debug)]
-pub enum Question {
-    /// Does the byte name a command?
-    Command,
-    /// Are all its operands there?
-    Operands,
-    /// Is the house 0 or 1?
-    House,
-    /// Does the hour, or the network block, allow this command now?
-    Allowed,
-    /// Does what the command names exist?
-    Exists,
-    /// Are the numbers in range?
-    InRange,
-    /// Is the withdrawn order the house's own and standing?
-    OwnStanding,
-    /// Is a place left?
-    PlaceLeft,
-    /// Is a try left?
-    TryLeft,
-    /// Is this rule of the sheet met?
-    Sheet(Rule),
-}
-
-impl Question {
-    /// The number under which a no to this question is reported.
-    pub fn number(self) -> u8
-        ensures { λ r. ⌜ r ≡ question-number self ⌝ }
-    {
-        match self {
-            Question::Command => 1,
-            Question::Operands => 2,
-            Question::House => 3,
-            Question::Allowed => 4,
-            Question::Exists => 5,
-            Question::InRange => 6,
-            Question::OwnStanding => 7,
-            Question::PlaceLeft => 8,
-            Question::TryLeft => 9,
-            Question::Sheet(rule) => rule.number(),
-        }
-    }
-}
-
-/// Where a question got its no: two numbers, both 0 where the question names no place.
-#[derive(Clone, Copy, PartialEq, Eq, Debug)]
-pub struct Place {
-    pub first: u16,
-    pub second: u16,
-}
-
-/// Why a command was refused, and where.
-#[derive(Clone, Copy, PartialEq, Eq, Debug)]
-pub struct Refusal {
-    pub question: Question,
-    pub place: Place,
+pub enum Refusal {
+    /// The byte names no command.
+    NoCommand,
+    /// Operands are missing.
+    NoOperands,
+    /// The house is neither 0 nor 1.
+    Stranger,
+    /// The hour, or the network block, does not allow the command now.
+    NotNow,
+    /// Something that the command names does not exist.
+    Missing,
+    /// A number is out of range.
+    OutOfRange,
+    /// The withdrawn order is not the house's own, or not standing.
+    NotOwn,
+    /// No place is left.
+    NoPlace,
+    /// No try is left.
+    NoTry,
+    /// The sheet breaks a rule.
+    Sheet(Broken),
 }
 
 impl Refusal {
-    /// A no to a question that names no place.
-    pub fn nowhere(question: Question) -> Refusal
-        ensures { λ r. ⌜ r .question ≡ question ⌝ ∗ ⌜ r .place .first ≡ 0 ⌝ ∗ ⌜ r .place .second ≡ 0 ⌝ }
+    /// The number of the question that got a no.
+    pub fn number(self) -> u8
+        ensures { λ r. ⌜ r ≡ refusal-number self ⌝ }
     {
-        let place = Place {
-            first: 0,
-            second: 0,
-        };
-        Refusal { question, place }
+        match self {
+            Refusal::NoCommand => 1,
+            Refusal::NoOperands => 2,
+            Refusal::Stranger => 3,
+            Refusal::NotNow => 4,
+            Refusal::Missing => 5,
+            Refusal::OutOfRange => 6,
+            Refusal::NotOwn => 7,
+            Refusal::NoPlace => 8,
+            Refusal::NoTry => 9,
+            Refusal::Sheet(broken) => broken.number(),
+        }
+    }
+
+    /// The two numbers of its place, 0 and 0 where the question names none.
+    pub fn place(self) -> (u16, u16)
+        ensures { λ r. ⌜ r ≡ refusal-place self ⌝ }
+    {
+        match self {
+            Refusal::Sheet(broken) => broken.place(),
+            _ => (0, 0),
+        }
+    }
+}
+
+pub impl From<Broken> for Refusal as RefusalFromBroken {
+    ghost converts = { λ broken r. r ≡ Sheet broken };
+
+    fn from(broken: Broken) -> Refusal {
+        Refusal::Sheet(broken)
+    }
+}
+
+/// Why something cannot be added to a network or to a list of orders, in the order in which the questions are put.
+#[derive(Clone, Copy, PartialEq, Eq, Debug)]
+pub enum Fault {
+    /// It names a zone or a line that does not exist.
+    Missing,
+    /// A number is out of range.
+    OutOfRange,
+    /// No place is left.
+    NoPlace,
+}
+
+pub impl From<Fault> for Refusal as RefusalFromFault {
+    ghost converts = { λ fault r. r ≡ refusal-of fault };
+
+    fn from(fault: Fault) -> Refusal {
+        match fault {
+            Fault::Missing => Refusal::Missing,
+            Fault::OutOfRange => Refusal::OutOfRange,
+            Fault::NoPlace => Refusal::NoPlace,
+        }
     }
 }

@@ -9,7 +9,7 @@ use lib.ListN.{length}
 use lib.Signed.{_≤ℤ_}
 use Rattle.auction.specs.Sums.{Σ}
 use Rattle.auction.specs.Hours.{Book, Dispatch, Entry, listAt, entryAt, over-orders}
-use Rattle.laws.proofs.Sums.{Σ-same, Σ-plus, Σ-times, Σ-swap, Σ-le, Σ-tight}
+use Rattle.laws.proofs.Sums.{Σ-same, Σ-plus, Σ-neg, Σ-times, Σ-swap, Σ-le, Σ-tight}
 
 -- P of each entered order
 abbrev pub Each : Book → (ℕ → ℕ → Type 0) → Type 0
@@ -43,6 +43,12 @@ module _ (b : Book) where
   orders-times d a f =
       Σ-same (length b) _ _ (λ l _. Σ-times (length (listAt b l)) a (λ n. f (entryAt b l n) (d l n)))
       ∙ Σ-times (length b) a (λ l. Σ (length (listAt b l)) (λ n. f (entryAt b l n) (d l n)))
+
+  pub orders-neg : (d : Dispatch) (f : Entry → ℕ → ℤ) → over-orders b d (λ e q. negℤ (f e q)) ≡ negℤ (over-orders b d f)
+  unfolding over-orders
+  orders-neg d f =
+      Σ-same (length b) _ _ (λ l _. Σ-neg (length (listAt b l)) (λ n. f (entryAt b l n) (d l n)))
+      ∙ Σ-neg (length b) (λ l. Σ (length (listAt b l)) (λ n. f (entryAt b l n) (d l n)))
 
   -- a sum over zones inside is one outside
   pub orders-swap : (d : Dispatch) (k : ℕ) (f : ℕ → Entry → ℕ → ℤ) → over-orders b d (λ e q. Σ k (λ z. f z e q)) ≡ Σ k (λ z. over-orders b d (f z))

@@ -1,4 +1,4 @@
--- What all orders together gain and are paid, told by welfare and by the shadow prices of the lines.
+-- What all orders together gain and are paid, told by welfare-of and by the shadow prices of the lines.
 use Prim.Native.Nat.{ℕ, _<_}
 use mathlib.Core.Path.{_≡_, refl, sym, ap, subst, _∙_}
 use mathlib.Core.Bool.{true, cond}
@@ -11,7 +11,7 @@ use lib.Signed.{_≤ℤ_}
 use Rattle.auction.specs.Sums.{Σ}
 use Rattle.auction.specs.Grids.{Grid, line-count, sensitivityAt}
 use Rattle.auction.specs.Orders.{gain, proceeds}
-use Rattle.auction.specs.Hours.{Book, Dispatch, Prices, over-orders, welfare, net-injection, flow, Balanced, zone-price, zone-prices}
+use Rattle.auction.specs.Hours.{Book, Dispatch, Prices, over-orders, welfare-of, net-injection, flow-over, Balanced, zone-price, zone-prices}
 use Rattle.laws.proofs.Ring.{both-sums, sub-mul, mul-assoc}
 use Rattle.laws.proofs.Sums.{Σ-same, Σ-plus, Σ-neg, Σ-times, Σ-times-right, Σ-swap}
 use Rattle.laws.proofs.Books.{orders-plus, orders-times, orders-swap}
@@ -19,7 +19,7 @@ use Rattle.laws.proofs.Books.{orders-plus, orders-times, orders-swap}
 module _ (g : Grid) (b : Book) (d : Dispatch) (p : Prices) where
   -- what the flows of all lines earn at the shadow prices
   unfoldable pub congestion : ℤ
-  congestion = Σ (line-count g) (λ l. pos (p .shadow l) *ℤ flow g b d l)
+  congestion = Σ (line-count g) (λ l. pos (p .shadow l) *ℤ flow-over g b d l)
 
   -- what all orders are paid is each zone's price times its net injection
   paid-by-zone : over-orders b d (λ e q. proceeds (zone-prices g p) (e .order) q) ≡ Σ (g .zones) (λ z. zone-price g p z *ℤ net-injection b d z)
@@ -46,7 +46,7 @@ module _ (g : Grid) (b : Book) (d : Dispatch) (p : Prices) where
   lambda-pays-nothing balanced = Σ-times (g .zones) (p .lambda) (net-injection b d) ∙ ap (λ x. p .lambda *ℤ x) balanced ∙ *ℤ-zero (p .lambda)
 
   zones-to-lines : Σ (g .zones) (λ z. Σ (line-count g) (λ l. pos (p .shadow l) *ℤ (sensitivityAt g l z *ℤ net-injection b d z))) ≡ congestion
-  unfolding congestion flow
+  unfolding congestion flow-over
   zones-to-lines =
       Σ-swap (g .zones) (line-count g) (λ z l. pos (p .shadow l) *ℤ (sensitivityAt g l z *ℤ net-injection b d z))
       ∙ Σ-same (line-count g) _ _ (λ l _. Σ-times (g .zones) (pos (p .shadow l)) (λ z. sensitivityAt g l z *ℤ net-injection b d z))
@@ -66,8 +66,8 @@ module _ (g : Grid) (b : Book) (d : Dispatch) (p : Prices) where
       remainder x y c h k = omega (arith, ints)
 
   -- what all orders of a balanced dispatch gain
-  pub gained : Balanced g b d → over-orders b d (λ e q. gain (zone-prices g p) (e .order) q) ≡ pos 1000 *ℤ welfare b d -ℤ congestion
-  unfolding welfare
+  pub gained : Balanced g b d → over-orders b d (λ e q. gain (zone-prices g p) (e .order) q) ≡ pos 1000 *ℤ welfare-of b d -ℤ congestion
+  unfolding welfare-of
   gained balanced =
       orders-plus b d (λ e q. pos 1000 *ℤ e .order .worth q) (λ e q. proceeds (zone-prices g p) (e .order) q)
       ∙ both-sums (orders-times b d (pos 1000) (λ e q. e .order .worth q)) (paid-is-congestion balanced)
