@@ -5,3 +5,4 @@ pub mod Orders
 pub mod Hours
 pub mod Refusals
 pub mod Rules
+pub mod Houses

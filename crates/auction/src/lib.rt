@@ -1,8 +1,11 @@
 //! What an hour of the zonal auction means: see specs/. Here is why a command is refused: the question that got a no, with its number and its place.
 
 ghost use mathlib.Core.Path.{_≡_};
+ghost use Prim.Native.Nat.{_≤_};
 ghost use Rattle.auction.specs.Refusals.{broken-number, broken-place, refusal-number, refusal-place, refusal-of};
-ghost use Rattle.auction.specs.declared.Refusal.the-variants.{Sheet};
+ghost use Rattle.auction.specs.Houses.{house-number};
+ghost use Rattle.auction.specs.declared.Refusal.the-variants.{Sheet, Stranger};
+ghost use Rattle.std.specs.Results.{Cases};
 
 /// The rule of the sheet that is broken first, and where.
 #[derive(Clone, Copy, PartialEq, Eq, Debug)]
@@ -133,6 +136,35 @@ pub impl From<Fault> for Refusal as RefusalFromFault {
             Fault::Missing => Refusal::Missing,
             Fault::OutOfRange => Refusal::OutOfRange,
             Fault::NoPlace => Refusal::NoPlace,
+        }
+    }
+}
+
+/// One of the two houses that share the pool.
+#[derive(Clone, Copy, PartialEq, Eq, Debug)]
+pub enum House {
+    Zero,
+    One,
+}
+
+impl House {
+    /// The house with this number; there are two.
+    pub fn numbered(number: u8) -> Result<House, Refusal>
+        ensures { λ r. ⌜ Cases r (λ house. house-number house ≡ number) (λ refusal. (refusal ≡ Stranger) × (2 ≤ number)) ⌝ }
+    {
+        match number {
+            0 => Ok(House::Zero),
+            1 => Ok(House::One),
+            _ => Err(Refusal::Stranger),
+        }
+    }
+
+    pub fn number(self) -> u8
+        ensures { λ r. ⌜ r ≡ house-number self ⌝ }
+    {
+        match self {
+            House::Zero => 0,
+            House::One => 1,
         }
     }
 }

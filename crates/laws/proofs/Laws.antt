@@ -122,6 +122,7 @@ rent-law g b d p ok two =
   where
     of : ℕ → Entry → ℕ → ℤ
     of house e q = cond (eqb (e .house) house) (charge g p e q) (pos 0)
+
     twice : (x c : ℤ) → x ≡ negℤ c → negℤ x ≡ c
     twice x c h = omega (arith, ints)
 
@@ -167,9 +168,9 @@ one-verdict g b d p x first = ((λ ok. first .broken (ok x)), same)
     same : (y : Broken) → First-broken g b d p y → y ≡ x
     same y other =
         ⊎-elim (λ n. ⊎-elim (λ i. ⊎-elim (same-numbers x y n i)
-            (⊎-elim (λ l. absurd (other .broken (first .there-before y n i l))) (λ l. absurd (first .broken (other .there-before x (sym n) (sym i) l))))
-            (cases-order (broken-place y .1) (broken-place x .1)))
-          (⊎-elim (λ l. absurd (other .broken (first .places-before y n l))) (λ l. absurd (first .broken (other .places-before x (sym n) l))))
-          (cases-order (broken-place y .0) (broken-place x .0)))
+        (⊎-elim (λ l. absurd (other .broken (first .there-before y n i l))) (λ l. absurd (first .broken (other .there-before x (sym n) (sym i) l))))
+        (cases-order (broken-place y .1) (broken-place x .1)))
+        (⊎-elim (λ l. absurd (other .broken (first .places-before y n l))) (λ l. absurd (first .broken (other .places-before x (sym n) l))))
+        (cases-order (broken-place y .0) (broken-place x .0)))
         (⊎-elim (λ l. absurd (other .broken (first .rules-before y l))) (λ l. absurd (first .broken (other .rules-before x l))))
         (cases-order (broken-number y) (broken-number x))

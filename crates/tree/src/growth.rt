@@ -8,12 +8,11 @@ ghost use Rattle.network.specs.Bounds.{most-zones, most-kWh};
 ghost use Rattle.network.specs.Faults.{Always, Answered};
 ghost use Rattle.tree.specs.Links.{link-of};
 ghost use Rattle.tree.specs.Trees.{links-of, tree-grid, Tree-shaped};
-
-use network::Fault;
-use network::MOST_KWH;
+use super::MOST_LINKS;
 use super::grown::Link;
 use super::grown::Tree;
-use super::MOST_LINKS;
+use network::Fault;
+use network::MOST_KWH;
 
 impl Tree {
     /// One zone, and no line.
