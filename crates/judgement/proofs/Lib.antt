@@ -1,1 +1,3 @@
+pub mod Products
 pub mod Running
+pub mod Paying

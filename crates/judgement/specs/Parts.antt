@@ -1,14 +1,15 @@
 -- What the orders of one list do at the quantities of a sheet.
 use Prim.Native.Nat.{ℕ, _*_, _≤_, _<_}
 use mathlib.Core.List.{List}
-use lib.IntN.{ℤ, natAbs}
+use lib.IntN.{ℤ, pos, negℤ, natAbs}
 use Rattle.std.specs.declared.option.Option.{Option}
 use Rattle.std.specs.declared.option.Option.the-variants.{Some, None}
 use lib.ListN.{length}
 use mathlib.Core.Path.{_≡_}
-use mathlib.Core.Bool.{true}
+use mathlib.Core.Bool.{true, cond}
+use lib.Dec.{eqb}
 use Rattle.auction.specs.Sums.{Σ, Σℕ}
-use Rattle.auction.specs.Orders.{ZonePrices, Content}
+use Rattle.auction.specs.Orders.{ZonePrices, Content, proceeds}
 use Rattle.auction.specs.Hours.{Entry, Takes}
 use Rattle.orders.specs.Reads.{entry, standing-largest}
 
@@ -46,6 +47,13 @@ entry-worth e q = e .order .worth q
 
 abbrev pub entry-injection : ℕ → Entry → ℕ → ℤ
 entry-injection z e q = e .order .injection q z
+
+abbrev pub entry-proceeds : ZonePrices → Entry → ℕ → ℤ
+entry-proceeds prices e q = proceeds prices (e .order) q
+
+-- what an order of a house pays at given zone prices
+abbrev pub own-charge : ZonePrices → ℕ → Entry → ℕ → ℤ
+own-charge prices house e q = cond (eqb (e .house) house) (negℤ (proceeds prices (e .order) q)) (pos 0)
 
 -- one term of a sum over a list, of at most k for each kWh that is taken
 pub record Term (es : List Entry) (qs : ℕ → ℕ) (f : Entry → ℕ → ℤ) (k n : ℕ) (term : ℤ) : Type 0 where

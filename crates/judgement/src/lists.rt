@@ -8,7 +8,8 @@ ghost use Rattle.std.specs.Orderings.{Decides};
 ghost use Rattle.auction.specs.Hours.{Takes};
 ghost use Rattle.orders.specs.Reads.{array-prices, entry};
 ghost use Rattle.sheets.specs.Proposals.{dispatch-of};
-ghost use Rattle.judgement.specs.Parts.{All-take, At-ease, First-failing, Term, entry-injection, entry-worth, list-sum};
+ghost use Rattle.judgement.specs.Parts.{All-take, At-ease, First-failing, Term, entry-injection, entry-proceeds, entry-worth, list-sum};
+use crate::numbers::paid;
 use crate::numbers::plus;
 use orders::MOST_ZONES;
 use orders::OrderList;
@@ -112,6 +113,25 @@ pub(crate) fn injection_of<L: OrderList>(list: &L, index: usize, sheet: &Sheet, 
     let mut total: i64 = 0;
     for number in 0..list.count() {
         total = plus(total, injection_at(list, index, sheet, number, zone));
+    }
+    total
+}
+
+/// What one order is paid at these zone prices, in millionths of a cent.
+fn proceeds_at<L: OrderList>(
+    list: &L,
+    index: usize,
+    sheet: &Sheet,
+    number: usize,
+    prices: &[i32; MOST_ZONES],
+) -> i64
+    requires { ⌜ number < length (L·OrderList .entries (now list)) ⌝ ∗ ⌜ Takes (entry (L·OrderList .entries (now list)) number) (dispatch-of (now sheet) index number) ⌝ }
+    ensures { λ r. ⌜ Term (L·OrderList .entries (now (list .entry))) (dispatch-of (now (sheet .entry)) index) (entry-proceeds (array-prices (now (prices .entry)))) 4294967296 number r ⌝ }
+{
+    let mut total: i64 = 0;
+    for zone in 0..MOST_ZONES {
+        let fed = injection_at(list, index, sheet, number, zone);
+        total = plus(total, paid(prices[zone], fed));
     }
     total
 }
