@@ -23,15 +23,16 @@ module _ (prices : List ℤ) (o : Order) (q : ℕ) where
 
   step : (z : ℕ) (total price fed new : ℤ) → Paid prices o q z total → price ≡ getD prices z (pos 0) → natAbs price ≤ 2 ^ 31 → fed ≡ o .injection q z → new ≡ total +ℤ price *ℤ fed → Paid prices o q (suc z) new
   unfolding Σ Σℕ
-  step z total price fed new so-far is small there sum = record
-    { is = sum ∙ (λ i. so-far .is i +ℤ is i *ℤ there i)
-    ; small = subst (λ (x : ℤ). natAbs x ≤ 2 ^ 31 * (Σℕ z (λ y. natAbs (o .injection q y)) + natAbs (o .injection q z))) (sym sum)
+  step z total price fed new so-far is small there sum = record {
+    is = sum ∙ (λ i. so-far .is i +ℤ is i *ℤ there i);
+    small = subst (λ (x : ℤ). natAbs x ≤ 2 ^ 31 * (Σℕ z (λ y. natAbs (o .injection q y)) + natAbs (o .injection q z))) (sym sum)
         (subst (λ (x : ℤ). natAbs (total +ℤ price *ℤ fed) ≤ 2 ^ 31 * (Σℕ z (λ y. natAbs (o .injection q y)) + natAbs x)) there
-        (grows total (price *ℤ fed) (Σℕ z (λ y. natAbs (o .injection q y))) (natAbs fed) (so-far .small) (product-small price fed (2 ^ 31) (natAbs fed) small (itself (natAbs fed)))))
-    }
+        (grows total (price *ℤ fed) (Σℕ z (λ y. natAbs (o .injection q y))) (natAbs fed) (so-far .small) (product-small price fed (2 ^ 31) (natAbs fed) small (itself (natAbs fed)))));
+  }
     where
       itself : (n : ℕ) → n ≤ n
       itself n = omega arith
+
       grows : (x a : ℤ) (n m : ℕ) → natAbs x ≤ 2 ^ 31 * n → natAbs a ≤ 2 ^ 31 * m → natAbs (x +ℤ a) ≤ 2 ^ 31 * (n + m)
       grows x a n m h r = omega (arith, ints)
 

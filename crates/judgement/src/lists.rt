@@ -6,11 +6,13 @@ ghost use lib.IntN.{natAbs};
 ghost use lib.ListN.{length};
 ghost use Rattle.std.specs.Orderings.{Decides};
 ghost use Rattle.auction.specs.Hours.{Takes};
+ghost use Rattle.auction.specs.Houses.{house-number};
 ghost use Rattle.orders.specs.Reads.{array-prices, entry};
 ghost use Rattle.sheets.specs.Proposals.{dispatch-of};
-ghost use Rattle.judgement.specs.Parts.{All-take, At-ease, First-failing, Term, entry-injection, entry-proceeds, entry-worth, list-sum};
+ghost use Rattle.judgement.specs.Parts.{All-take, At-ease, First-failing, Term, entry-injection, entry-proceeds, entry-worth, list-sum, own-charge};
 use crate::numbers::paid;
 use crate::numbers::plus;
+use auction::House;
 use orders::MOST_ZONES;
 use orders::OrderList;
 use sheets::Sheet;
@@ -132,6 +134,43 @@ fn proceeds_at<L: OrderList>(
     for zone in 0..MOST_ZONES {
         let fed = injection_at(list, index, sheet, number, zone);
         total = plus(total, paid(prices[zone], fed));
+    }
+    total
+}
+
+/// What one order pays, if it is this house's.
+fn charge_at<L: OrderList>(
+    list: &L,
+    index: usize,
+    sheet: &Sheet,
+    number: usize,
+    prices: &[i32; MOST_ZONES],
+    house: House,
+) -> i64
+    requires { ⌜ number < length (L·OrderList .entries (now list)) ⌝ ∗ ⌜ Takes (entry (L·OrderList .entries (now list)) number) (dispatch-of (now sheet) index number) ⌝ }
+    ensures { λ r. ⌜ Term (L·OrderList .entries (now (list .entry))) (dispatch-of (now (sheet .entry)) index) (own-charge (array-prices (now (prices .entry))) (house-number house)) 4294967296 number r ⌝ }
+{
+    if list.house(number).number() != house.number() {
+        return 0;
+    }
+    -proceeds_at(list, index, sheet, number, prices)
+}
+
+/// What all orders of a house in the list pay, in millionths of a cent.
+pub(crate) fn charges_of<L: OrderList>(
+    list: &L,
+    index: usize,
+    sheet: &Sheet,
+    prices: &[i32; MOST_ZONES],
+    house: House,
+) -> i64
+    requires { ⌜ All-take (L·OrderList .entries (now list)) (dispatch-of (now sheet) index) ⌝ }
+    ensures value { λ r. ⌜ r ≡ list-sum (L·OrderList .entries (now (list .entry))) (dispatch-of (now (sheet .entry)) index) (own-charge (array-prices (now (prices .entry))) (house-number house)) ⌝ }
+    ensures bound { λ r. ⌜ natAbs r ≤ 42949672960000000 ⌝ }
+{
+    let mut total: i64 = 0;
+    for number in 0..list.count() {
+        total = plus(total, charge_at(list, index, sheet, number, prices, house));
     }
     total
 }

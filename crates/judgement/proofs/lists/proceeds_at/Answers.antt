@@ -42,8 +42,8 @@ returns g c =
     let sound = g .L·OrderList·met .sound (c .args .list .now) (c .args .number) (c .pre .0) in
     let may = possible-of-takes (entry es (c .args .number)) q (c .pre .1) in
     let all : c .loop-zone .zone ≡ 24 = omega arith in
-    record
-    { is = c .loop-zone .inv .is ∙ ap (λ z. Σ z (λ y. getD (c .args .prices .now) y (pos 0) *ℤ entry es (c .args .number) .order .injection q y)) all
-    ; small = paid-bound _ _ _ (c .loop-zone .zone) _ (c .loop-zone .inv) sound may
-    ; modest = le-trans may (sound .largest-in-range)
+    record {
+      is = c .loop-zone .inv .is ∙ ap (λ z. Σ z (λ y. getD (c .args .prices .now) y (pos 0) *ℤ entry es (c .args .number) .order .injection q y)) all;
+      small = paid-bound _ _ _ (c .loop-zone .zone) _ (c .loop-zone .inv) sound may;
+      modest = le-trans may (sound .largest-in-range);
     }
