@@ -5,7 +5,6 @@ ghost use mathlib.Core.Path.{_≡_};
 ghost use lib.ListN.{length, getD};
 ghost use Rattle.network.specs.Bounds.{most-kWh};
 ghost use Rattle.tree.specs.Links.{most-links, no-link};
-
 use super::MOST_LINKS;
 
 /// What joins a zone to its parent, with the limits of the two directions in kWh.
