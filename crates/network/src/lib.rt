@@ -9,9 +9,12 @@ ghost use Rattle.network.specs.Faults.{refusal-of};
 use auction::Question;
 use auction::Refusal;
 
+mod list;
+mod listed;
 mod row;
 mod rows;
 
+pub use list::RowList;
 pub use row::Row;
 
 /// The zones of a network are numbered from 0, and there are at most so many.
