@@ -1,3 +1,2 @@
 pub mod Bounds
-pub mod Faults
 pub mod Rows

@@ -5,13 +5,13 @@ ghost use mathlib.Core.Path.{_≡_};
 ghost use lib.IntN.{natAbs};
 ghost use Rattle.auction.specs.Grids.{Grid, line-count, limitAt, sensitivityAt};
 ghost use Rattle.network.specs.Bounds.{most-zones, most-lines, most-kWh, most-sensitivity};
-ghost use Rattle.network.specs.Faults.{refusal-of};
-use auction::Question;
-use auction::Refusal;
 
+mod list;
+mod listed;
 mod row;
 mod rows;
 
+pub use list::RowList;
 pub use row::Row;
 
 /// The zones of a network are numbered from 0, and there are at most so many.
@@ -50,28 +50,4 @@ pub trait Network {
     /// In kWh, and 0 for a line that the network lacks.
     fn limit(&self, line: usize) -> u32
         ensures { λ r. ⌜ r ≡ limitAt (grid (now (self .entry))) line ⌝ };
-}
-
-/// Why a part of a network was refused, in the order in which the questions are put.
-#[derive(Clone, Copy, PartialEq, Eq, Debug)]
-pub enum Fault {
-    /// It names a zone or a line that does not exist.
-    Missing,
-    /// A limit, a sensitivity or an amount is out of range.
-    OutOfRange,
-    /// There is no place left.
-    NoPlace,
-}
-
-pub impl From<Fault> for Refusal as RefusalFromFault {
-    ghost converts = { λ fault r. r ≡ refusal-of fault };
-
-    fn from(fault: Fault) -> Refusal {
-        let question = match fault {
-            Fault::Missing => Question::Exists,
-            Fault::OutOfRange => Question::InRange,
-            Fault::NoPlace => Question::PlaceLeft,
-        };
-        Refusal::nowhere(question)
-    }
 }

@@ -5,13 +5,13 @@ ghost use mathlib.Core.Path.{_≡_};
 ghost use Rattle.std.specs.Orderings.{Decides};
 ghost use Rattle.auction.specs.Grids.{no-line};
 ghost use Rattle.network.specs.Bounds.{Of-zones, Sensitivities-in-range, Numbers-in-range};
-ghost use Rattle.network.specs.Faults.{Always, Answered};
+ghost use Rattle.auction.specs.Refusals.{Always, Answered};
 ghost use Rattle.network.specs.Rows.{line-of, row-line};
-use super::Fault;
 use super::MOST_KWH;
 use super::MOST_SENSITIVITY;
 use super::MOST_ZONES;
 use super::Row;
+use auction::Fault;
 
 /// Is each sensitivity for a zone that is not there 0?
 fn of_zones(zones: usize, sensitivities: &[i16; MOST_ZONES]) -> bool

@@ -1,23 +1,21 @@
 //! How a tree grows, zone by zone.
 
-ghost use Prim.Native.Nat.{ℕ, _+_, _≤_, _<_};
 ghost use mathlib.Core.Path.{_≡_};
 ghost use mathlib.Core.List.{[], _∷_, _++_};
-ghost use lib.ListN.{length};
-ghost use Rattle.network.specs.Bounds.{most-zones, most-kWh};
-ghost use Rattle.network.specs.Faults.{Always, Answered};
-ghost use Rattle.tree.specs.Links.{link-of};
+ghost use Rattle.auction.specs.Refusals.{Always, Answered};
+ghost use Rattle.tree.specs.Links.{link-of, Next-exists, Limits-in-range};
 ghost use Rattle.tree.specs.Trees.{links-of, tree-grid, Tree-shaped};
 use super::MOST_LINKS;
 use super::grown::Link;
 use super::grown::Tree;
-use network::Fault;
+use auction::Fault;
 use network::MOST_KWH;
 
 impl Tree {
     /// One zone, and no line.
     pub fn new() -> Tree
-        ensures { λ r. ⌜ links-of r ≡ [] ⌝ }
+        ensures bare { λ r. ⌜ links-of r ≡ [] ⌝ }
+        ensures shaped { λ r. ⌜ Tree-shaped (links-of r) (tree-grid (links-of r)) ⌝ }
     {
         let blank = Link {
             parent: 0,
@@ -28,5 +26,31 @@ impl Tree {
             count: 0,
             links: [blank; MOST_LINKS],
         }
+    }
+
+    /// Adds the next zone below `parent`, which is there: refused where there is no next zone or no such parent, else where a limit is out of range.
+    pub fn link(&mut self, parent: u8, to_parent: u32, to_child: u32) -> Result<(), Fault>
+        ensures grown { λ r. ⌜ Answered r (Next-exists (links-of (now (self .entry))) parent) (Limits-in-range «to_parent» «to_child») Always (λ _. links-of (now (self .exit)) ≡ links-of (now (self .entry)) ++ link-of parent «to_parent» «to_child» ∷ []) (now (self .exit) ≡ now (self .entry)) ⌝ }
+        ensures shaped { λ _. ⌜ Tree-shaped (links-of (now (self .exit))) (tree-grid (links-of (now (self .exit)))) ⌝ }
+    {
+        if self.count >= MOST_LINKS {
+            return Err(Fault::Missing);
+        }
+        if parent as usize > self.count {
+            return Err(Fault::Missing);
+        }
+        if to_parent > MOST_KWH {
+            return Err(Fault::OutOfRange);
+        }
+        if to_child > MOST_KWH {
+            return Err(Fault::OutOfRange);
+        }
+        self.links[self.count] = Link {
+            parent,
+            to_parent,
+            to_child,
+        };
+        self.count += 1;
+        Ok(())
     }
 }

@@ -1,0 +1,99 @@
+//! A network of which some capacity is held back.
+
+ghost use Prim.Native.Nat.{_-_, _≤_, _<_};
+ghost use mathlib.Core.Path.{_≡_};
+ghost use lib.ListN.{getD, set, replicate};
+ghost use denote.Ref.{now};
+ghost use Rattle.auction.specs.Grids.{line-count};
+ghost use Rattle.network.specs.Bounds.{most-lines, most-kWh};
+ghost use Rattle.auction.specs.Refusals.{Always, Answered};
+ghost use Rattle.layers.specs.Lowered.{lowered-grid, Holds, Holds-nothing};
+use super::amounts::Amounts;
+use auction::Fault;
+use network::MOST_KWH;
+use network::MOST_LINES;
+use network::Network;
+
+impl Amounts {
+    fn none() -> Amounts
+        ensures { λ r. ⌜ r .kwh ≡ replicate most-lines 0 ⌝ }
+    {
+        Amounts {
+            kwh: [0; MOST_LINES],
+        }
+    }
+
+    /// What is left of a line's limit.
+    fn lower(&self, line: usize, limit: u32) -> u32
+        ensures { λ r. ⌜ r ≡ limit - getD (now (self .entry) .kwh) line 0 ⌝ }
+    {
+        if line >= MOST_LINES {
+            return limit;
+        }
+        let held = self.kwh[line];
+        if held > limit {
+            return 0;
+        }
+        limit - held
+    }
+
+    fn hold(&mut self, line: usize, kwh: u32)
+        requires { ⌜ line < most-lines ⌝ }
+        ensures { λ _. ⌜ now (self .exit) .kwh ≡ set (now (self .entry) .kwh) line kwh ⌝ }
+    {
+        self.kwh[line] = kwh;
+    }
+}
+
+/// Each line's limit is lowered by the amount that is held back of it, to no less than 0.
+#[derive(Drop)]
+pub struct HeldBack<N> {
+    below: N,
+    amounts: Amounts,
+}
+
+impl<N: Network> HeldBack<N> {
+    /// Holds nothing back yet.
+    pub fn new(below: N) -> HeldBack<N>
+        ensures kept { λ r. ⌜ r .below ≡ below ⌝ }
+        ensures nothing { λ r. ⌜ Holds-nothing (N·Network .grid below) (lowered-grid (N·Network .grid (r .below)) (r .amounts .kwh)) ⌝ }
+    {
+        let amounts = Amounts::none();
+        HeldBack { below, amounts }
+    }
+
+    /// Holds so much back of a line from now on: refused where there is no such line, else where the amount is out of range.
+    pub fn hold_back(&mut self, line: usize, kwh: u32) -> Result<(), Fault>
+        ensures { λ r. ⌜ Answered r (line < line-count (N·Network .grid (now (self .entry) .below))) (kwh ≤ most-kWh) Always (λ _. (now (self .exit) .below ≡ now (self .entry) .below) × Holds (N·Network .grid (now (self .entry) .below)) (lowered-grid (N·Network .grid (now (self .entry) .below)) (now (self .entry) .amounts .kwh)) (lowered-grid (N·Network .grid (now (self .exit) .below)) (now (self .exit) .amounts .kwh)) line kwh) (now (self .exit) ≡ now (self .entry)) ⌝ }
+    {
+        if line >= self.below.lines() {
+            return Err(Fault::Missing);
+        }
+        if kwh > MOST_KWH {
+            return Err(Fault::OutOfRange);
+        }
+        self.amounts.hold(line, kwh);
+        Ok(())
+    }
+}
+
+pub impl<N: Network> Network for HeldBack<N> as HeldBackNetwork {
+    ghost grid = { λ h. lowered-grid (N·Network .grid (h .below)) (h .amounts .kwh) };
+
+    fn zones(&self) -> usize {
+        self.below.zones()
+    }
+
+    fn lines(&self) -> usize {
+        self.below.lines()
+    }
+
+    fn sensitivity(&self, line: usize, zone: usize) -> i16 {
+        self.below.sensitivity(line, zone)
+    }
+
+    fn limit(&self, line: usize) -> u32 {
+        let limit = self.below.limit(line);
+        self.amounts.lower(line, limit)
+    }
+}

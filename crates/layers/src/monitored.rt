@@ -1,0 +1,103 @@
+//! A network with further lines that are watched.
+
+ghost use mathlib.Core.Path.{_≡_};
+ghost use mathlib.Core.List.{[], _∷_, _++_};
+ghost use lib.ListN.{getD};
+ghost use denote.Ref.{now};
+ghost use Rattle.std.specs.Options.{Cases as BySome};
+ghost use Rattle.auction.specs.Grids.{no-line};
+ghost use Rattle.network.specs.Bounds.{Of-zones, Numbers-in-range};
+ghost use Rattle.auction.specs.Refusals.{Answered};
+ghost use Rattle.network.specs.Rows.{row-line, line-of, lines-of, Same-line};
+ghost use Rattle.layers.specs.Watched.{watched-grid, Place-left};
+use super::MOST_WATCHED;
+use auction::Fault;
+use network::MOST_LINES;
+use network::MOST_ZONES;
+use network::Network;
+use network::Row;
+use network::RowList;
+
+/// The lines below come first, then the watched ones, 60 in all.
+#[derive(Drop)]
+pub struct Monitored<N> {
+    below: N,
+    watched: RowList<MOST_WATCHED>,
+}
+
+impl<N: Network> Monitored<N> {
+    /// Watches no line yet.
+    pub fn new(below: N) -> Monitored<N>
+        ensures kept { λ r. ⌜ r .below ≡ below ⌝ }
+        ensures none { λ r. ⌜ lines-of (r .watched .count) (r .watched .rows) ≡ [] ⌝ }
+        ensures same { λ r. ⌜ watched-grid (N·Network .grid (r .below)) (lines-of (r .watched .count) (r .watched .rows)) .lines ≡ N·Network .grid below .lines ⌝ }
+    {
+        let watched = RowList::new();
+        Monitored { below, watched }
+    }
+
+    /// Watches a further line, after the others: refused where it has a sensitivity for a zone that is not there, else where a number is out of range, else
+    /// where no place is left.
+    pub fn watch(&mut self, limit: u32, sensitivities: [i16; MOST_ZONES]) -> Result<(), Fault>
+        ensures { λ r. ⌜ Answered r (Of-zones (N·Network .grid (now (self .entry) .below) .zones) sensitivities) (Numbers-in-range limit sensitivities) (Place-left (N·Network .grid (now (self .entry) .below)) (lines-of (now (self .entry) .watched .count) (now (self .entry) .watched .rows))) (λ _. (now (self .exit) .below ≡ now (self .entry) .below) × (watched-grid (N·Network .grid (now (self .exit) .below)) (lines-of (now (self .exit) .watched .count) (now (self .exit) .watched .rows)) .lines ≡ watched-grid (N·Network .grid (now (self .entry) .below)) (lines-of (now (self .entry) .watched .count) (now (self .entry) .watched .rows)) .lines ++ line-of limit sensitivities ∷ [])) ((now (self .exit) .below ≡ now (self .entry) .below) × (now (self .exit) .watched ≡ now (self .entry) .watched)) ⌝ }
+    {
+        let row = Row::new(self.below.zones(), limit, sensitivities)?;
+        if self.lines() >= MOST_LINES {
+            return Err(Fault::NoPlace);
+        }
+        if !self.watched.push(row) {
+            return Err(Fault::NoPlace);
+        }
+        Ok(())
+    }
+
+    /// The row of a line that is watched here, blank where there is none, and nothing for a line below.
+    fn row(&self, line: usize) -> Option<Row>
+        ensures { λ r. ⌜ BySome r (getD (watched-grid (N·Network .grid (now (self .entry) .below)) (lines-of (now (self .entry) .watched .count) (now (self .entry) .watched .rows)) .lines) line no-line ≡ getD (N·Network .grid (now (self .entry) .below) .lines) line no-line) (λ row. Same-line (row-line row) (getD (watched-grid (N·Network .grid (now (self .entry) .below)) (lines-of (now (self .entry) .watched .count) (now (self .entry) .watched .rows)) .lines) line no-line)) ⌝ }
+    {
+        let below = self.below.lines();
+        if line < below {
+            return None;
+        }
+        if line >= MOST_LINES {
+            return Some(Row::blank());
+        }
+        Some(self.watched.at(line - below))
+    }
+}
+
+pub impl<N: Network> Network for Monitored<N> as MonitoredNetwork {
+    ghost grid = { λ m. watched-grid (N·Network .grid (m .below)) (lines-of (m .watched .count) (m .watched .rows)) };
+
+    fn zones(&self) -> usize {
+        self.below.zones()
+    }
+
+    fn lines(&self) -> usize {
+        let lines = self.below.lines() + self.watched.len();
+        if lines > MOST_LINES {
+            MOST_LINES
+        } else {
+            lines
+        }
+    }
+
+    fn sensitivity(&self, line: usize, zone: usize) -> i16 {
+        match self.row(line) {
+            None => self.below.sensitivity(line, zone),
+            Some(row) => {
+                if zone >= self.below.zones() {
+                    return 0;
+                }
+                row.sensitivity(zone)
+            }
+        }
+    }
+
+    fn limit(&self, line: usize) -> u32 {
+        match self.row(line) {
+            None => self.below.limit(line),
+            Some(row) => row.limit(),
+        }
+    }
+}

@@ -1,0 +1,52 @@
+//! How a list of rows grows and is read.
+
+ghost use mathlib.Core.Path.{_≡_};
+ghost use mathlib.Core.List.{[], _∷_, _++_};
+ghost use lib.Dec.{ltb};
+ghost use lib.ListN.{length, getD};
+ghost use Rattle.std.specs.Orderings.{When};
+ghost use Rattle.auction.specs.Grids.{no-line};
+ghost use Rattle.network.specs.Rows.{row-line, lines-of, Same-line};
+use super::Row;
+use super::RowList;
+
+impl<const N: usize> RowList<N> {
+    pub fn new() -> RowList<N>
+        ensures { λ r. ⌜ lines-of (r .count) (r .rows) ≡ [] ⌝ }
+    {
+        let blank = Row::blank();
+        RowList {
+            count: 0,
+            rows: [blank; N],
+        }
+    }
+
+    pub fn len(&self) -> usize
+        ensures { λ r. ⌜ r ≡ length (lines-of (now (self .entry) .count) (now (self .entry) .rows)) ⌝ ∗ ⌜ r ≡ now (self .entry) .count ⌝ }
+    {
+        self.count
+    }
+
+    /// The row at an index, and a blank one where there is none.
+    pub fn at(&self, index: usize) -> Row
+        ensures { λ r. ⌜ Same-line (row-line r) (getD (lines-of (now (self .entry) .count) (now (self .entry) .rows)) index no-line) ⌝ }
+    {
+        if index >= self.count {
+            return Row::blank();
+        }
+        self.rows[index]
+    }
+
+    /// Adds a row after the others, and says whether there was a place for it.
+    pub fn push(&mut self, row: Row) -> bool
+        ensures { λ r. ⌜ r ≡ ltb (length (lines-of (now (self .entry) .count) (now (self .entry) .rows))) N ⌝ ∗ ⌜ When r (lines-of (now (self .exit) .count) (now (self .exit) .rows) ≡ lines-of (now (self .entry) .count) (now (self .entry) .rows) ++ row-line row ∷ []) (now (self .exit) ≡ now (self .entry)) ⌝ }
+    {
+        let count = self.len();
+        if count >= N {
+            return false;
+        }
+        self.rows[count] = row;
+        self.count = count + 1;
+        true
+    }
+}
