@@ -1,3 +1,5 @@
 pub mod Products
 pub mod Running
 pub mod Paying
+pub mod Books
+pub mod Filling
