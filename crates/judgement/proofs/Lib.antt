@@ -3,3 +3,4 @@ pub mod Running
 pub mod Paying
 pub mod Books
 pub mod Filling
+pub mod Summing
