@@ -4,3 +4,4 @@ pub mod Paying
 pub mod Books
 pub mod Filling
 pub mod Summing
+pub mod Pricing

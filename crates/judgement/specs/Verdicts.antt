@@ -6,7 +6,10 @@ use lib.IntN.{ℤ, pos, _*ℤ_, natAbs}
 use lib.ListN.{length, getD}
 use Rattle.auction.specs.Sums.{Σ}
 use Rattle.auction.specs.Grids.{Grid, sensitivityAt}
-use Rattle.auction.specs.Hours.{Entry, Book, Dispatch, net-injection}
+use Rattle.std.specs.declared.result.Result.{Result}
+use Rattle.std.specs.declared.result.Result.the-variants.{Ok, Err}
+use Rattle.auction.specs.Orders.{Zone-price-in-range}
+use Rattle.auction.specs.Hours.{Entry, Book, Dispatch, Prices, net-injection, zone-price}
 
 -- three lists of orders
 abbrev pub book-of : List Entry → List Entry → List Entry → Book
@@ -25,3 +28,12 @@ array-flow g nets l = Σ 24 (λ z. sensitivityAt g l z *ℤ getD nets z (pos 0))
 -- an array of net injections that are not too large
 abbrev pub Small-nets : List ℤ → Type 0
 Small-nets nets = (z : ℕ) → natAbs (getD nets z (pos 0)) ≤ 60000000
+
+-- the zone prices in such an array, all in range; or the first zone whose price is out of range
+abbrev pub Priced : Grid → Prices → Result (List ℤ) ℕ → Type 0
+Priced g p (Ok prices) = ((z : ℕ) → z < g .zones → Zone-price-in-range (zone-price g p z)) × ((z : ℕ) → getD prices z (pos 0) ≡ zone-price g p z)
+Priced g p (Err zone) = (zone < g .zones) × ((z : ℕ) → z < zone → Zone-price-in-range (zone-price g p z)) × (Zone-price-in-range (zone-price g p zone) → ⊥)
+
+-- what a line takes off the price of a zone
+abbrev pub discount : Grid → Prices → ℕ → ℕ → ℤ
+discount g p z l = pos (p .shadow l) *ℤ sensitivityAt g l z

@@ -4,3 +4,4 @@ mod flows;
 mod lines;
 mod lists;
 mod numbers;
+mod prices;
