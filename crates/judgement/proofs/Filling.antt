@@ -27,7 +27,7 @@ nets-start b d n = record {
     none z h = omega arith
 
 -- a property of what is read after a write, here and elsewhere
-at-set : (P : ℤ → Type 0) (xs : List ℤ) (i z : ℕ) (v : ℤ) → i < length xs → (z ≡ i → P v) → ((z ≡ i → ⊥) → P (getD xs z (pos 0))) → P (getD (set xs i v) z (pos 0))
+pub at-set : (P : ℤ → Type 0) (xs : List ℤ) (i z : ℕ) (v : ℤ) → i < length xs → (z ≡ i → P v) → ((z ≡ i → ⊥) → P (getD xs z (pos 0))) → P (getD (set xs i v) z (pos 0))
 at-set P xs i z v h here there =
     ⊎-elim (λ e. subst P (sym (ap (λ k. getD (set xs i v) k (pos 0)) e ∙ getD-set-same xs i v (pos 0) h)) (here e))
     (λ ne. subst P (sym (getD-set-other xs i z v (pos 0) ne)) (there ne)) (cases-eq z i)

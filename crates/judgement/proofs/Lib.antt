@@ -5,3 +5,4 @@ pub mod Books
 pub mod Filling
 pub mod Summing
 pub mod Pricing
+pub mod Casts

@@ -5,14 +5,16 @@ ghost use mathlib.Core.Path.{_≡_};
 ghost use lib.IntN.{natAbs};
 ghost use Rattle.std.specs.Orderings.{Decides};
 ghost use Rattle.auction.specs.Sums.{Σ};
-ghost use Rattle.auction.specs.Grids.{line-count};
+ghost use Rattle.auction.specs.Grids.{line-count, limitAt};
+ghost use Rattle.auction.specs.Limits.{line-rent};
 ghost use Rattle.auction.specs.Orders.{Zone-price-in-range};
-ghost use Rattle.auction.specs.Hours.{zone-price};
+ghost use Rattle.auction.specs.Hours.{exact-rent, zone-price};
 ghost use Rattle.sheets.specs.Proposals.{prices-of};
-ghost use Rattle.judgement.specs.Verdicts.{discount};
+ghost use Rattle.judgement.specs.Verdicts.{Priced, discount};
 use crate::numbers::plus;
 use crate::numbers::times;
 use network::Network;
+use orders::MOST_ZONES;
 use sheets::Sheet;
 
 /// The largest size of a zone price.
@@ -58,4 +60,41 @@ fn in_range(price: i64) -> bool
         return false;
     }
     price >= -MOST_PRICE
+}
+
+/// The prices of all zones, 0 for those that the network lacks; or the first zone whose price is out of range.
+pub(crate) fn zone_prices<N: Network>(
+    network: &N,
+    sheet: &Sheet,
+) -> Result<[i32; MOST_ZONES], usize>
+    ensures { λ r. ⌜ Priced (N·Network .grid (now (network .entry))) (prices-of (now (sheet .entry))) r ⌝ }
+{
+    let mut prices = [0i32; MOST_ZONES];
+    for zone in 0..network.zones() {
+        let price = price_of(network, sheet, zone);
+        if !in_range(price) {
+            return Err(zone);
+        }
+        prices[zone] = price as i32;
+    }
+    Ok(prices)
+}
+
+/// The rent of one line, in millionths of a cent.
+fn line_rent_of<N: Network>(network: &N, sheet: &Sheet, line: usize) -> i64
+    ensures value { λ r. ⌜ r ≡ line-rent (limitAt (N·Network .grid (now (network .entry))) line) (prices-of (now (sheet .entry)) .shadow line) ⌝ }
+    ensures bound { λ r. ⌜ natAbs r ≤ 10000000000000000 ⌝ }
+{
+    1000 * times(sheet.shadow_price(line) as i64, network.limit(line) as i64)
+}
+
+/// The congestion rent of all lines.
+pub(crate) fn rent_of<N: Network>(network: &N, sheet: &Sheet) -> i64
+    ensures { λ r. ⌜ r ≡ exact-rent (N·Network .grid (now (network .entry))) (prices-of (now (sheet .entry))) ⌝ }
+{
+    let mut total: i64 = 0;
+    for line in 0..network.lines() {
+        total = plus(total, line_rent_of(network, sheet, line));
+    }
+    total
 }
