@@ -1,1 +1,5 @@
 pub mod Standing
+pub mod Bytes
+pub mod Parts
+pub mod Rows
+mod Wholes

@@ -3,11 +3,11 @@
 ghost use mathlib.Core.Path.{_≡_};
 ghost use Prim.Native.Nat.{_+_, _≤_};
 ghost use lib.ListN.{length, take};
-ghost use Rattle.std.specs.declared.option.Option.the-variants.{Some, None};
 ghost use Rattle.std.specs.Options.{Cases as BySome};
 ghost use Rattle.std.specs.Results.{Cases};
-ghost use Rattle.stream.specs.Reading.{length-table, operand-length, Stands};
+ghost use Rattle.stream.specs.Reading.{Stands};
 ghost use Rattle.stream.specs.Faults.{Faulty};
+use crate::lengths::operand_length;
 
 /// A longer stream is treated as cut off there.
 pub const MOST_BYTES: usize = 65536;
@@ -27,39 +27,6 @@ pub enum ReadFault {
     UnknownByte { offset: usize },
     /// The stream ends before the letter's operands do.
     MissingOperands { offset: usize, letter: u8 },
-}
-
-/// How many bytes of operands follow a letter; none for a byte that names no command.
-pub fn operand_length(letter: u8) -> Option<usize>
-    ensures { λ r. ⌜ r ≡ operand-length letter ⌝ }
-{
-    table_entry(letter)
-}
-
-fn table_entry(letter: u8) -> Option<usize>
-    ensures { λ r. ⌜ r ≡ length-table letter ⌝ }
-{
-    match letter {
-        b'Z' => Some(1),
-        b'Y' => Some(1),
-        b'K' => Some(9),
-        b'R' => Some(52),
-        b'V' => Some(52),
-        b'H' => Some(5),
-        b'G' => Some(0),
-        b'O' => Some(10),
-        b'B' => Some(10),
-        b'T' => Some(11),
-        b'W' => Some(4),
-        b'C' => Some(1),
-        b'Q' => Some(1),
-        b'S' => Some(1),
-        b'X' => Some(1),
-        b'A' => Some(8),
-        b'L' => Some(5),
-        b'M' => Some(6),
-        _ => None,
-    }
 }
 
 /// Reads a stream item by item.
