@@ -14,11 +14,11 @@ pub stood : (bytes : List ℕ) (at n : ℕ) → at < length bytes → operand-le
 stood bytes at n there known enough =
     let long : length (take n (drop (at + 1) bytes)) ≡ n = length-take-le n (drop (at + 1) bytes) (simp length-drop (omega arith)) in
     record {
-        first = refl;
-        others = rw long;
-        whole = rw long known;
-        after = rw long;
-        within = omega arith
+      first = refl;
+      others = rw long;
+      whole = rw long known;
+      after = rw long;
+      within = omega arith;
     }
 
 -- the rest of the stream, as the code has it

@@ -10,41 +10,98 @@ pub const SENSITIVITIES: usize = 24;
 #[derive(Clone, Copy)]
 pub enum Command {
     /// `Z`: begins a network that is a tree of so many zones.
-    Tree { zones: u8 },
+    Tree {
+        zones: u8,
+    },
     /// `Y`: begins a network that is a table of lines over so many zones.
-    Table { zones: u8 },
+    Table {
+        zones: u8,
+    },
     /// `K`: joins the next zone of a tree to its parent, with a limit in each direction.
-    Link { parent: u8, to_parent: u32, to_child: u32 },
+    Link {
+        parent: u8,
+        to_parent: u32,
+        to_child: u32,
+    },
     /// `R`: a line of a table.
-    Row { limit: u32, sensitivities: [i16; SENSITIVITIES] },
+    Row {
+        limit: u32,
+        sensitivities: [i16; SENSITIVITIES],
+    },
     /// `V`: a monitored line on top of the network.
-    Monitor { limit: u32, sensitivities: [i16; SENSITIVITIES] },
+    Monitor {
+        limit: u32,
+        sensitivities: [i16; SENSITIVITIES],
+    },
     /// `H`: holds back some kWh of a line's limit.
-    HoldBack { line: u8, kwh: u32 },
+    HoldBack {
+        line: u8,
+        kwh: u32,
+    },
     /// `G`: ends the network block and opens the first hour.
     Open,
     /// `O`: offers energy in a zone.
-    Offer { house: u8, zone: u8, price: u32, quantity: u32 },
+    Offer {
+        house: u8,
+        zone: u8,
+        price: u32,
+        quantity: u32,
+    },
     /// `B`: bids for energy in a zone.
-    Bid { house: u8, zone: u8, price: u32, quantity: u32 },
+    Bid {
+        house: u8,
+        zone: u8,
+        price: u32,
+        quantity: u32,
+    },
     /// `T`: takes energy from the first zone to the second.
-    Transfer { house: u8, first: u8, second: u8, price: u32, quantity: u32 },
+    Transfer {
+        house: u8,
+        first: u8,
+        second: u8,
+        price: u32,
+        quantity: u32,
+    },
     /// `W`: withdraws an order.
-    Withdraw { house: u8, list: u8, number: u16 },
+    Withdraw {
+        house: u8,
+        list: u8,
+        number: u16,
+    },
     /// `C`: closes the hour's books.
-    Close { house: u8 },
+    Close {
+        house: u8,
+    },
     /// `Q`: tries the sheet.
-    Try { house: u8 },
+    Try {
+        house: u8,
+    },
     /// `S`: settles the hour.
-    Settle { house: u8 },
+    Settle {
+        house: u8,
+    },
     /// `X`: voids the hour.
-    Void { house: u8 },
+    Void {
+        house: u8,
+    },
     /// `A`: writes an order's quantity into the sheet.
-    Quantity { house: u8, list: u8, number: u16, quantity: u32 },
+    Quantity {
+        house: u8,
+        list: u8,
+        number: u16,
+        quantity: u32,
+    },
     /// `L`: writes the reference price into the sheet.
-    Lambda { house: u8, lambda: i32 },
+    Lambda {
+        house: u8,
+        lambda: i32,
+    },
     /// `M`: writes a line's shadow price into the sheet.
-    ShadowPrice { house: u8, line: u8, price: u32 },
+    ShadowPrice {
+        house: u8,
+        line: u8,
+        price: u32,
+    },
 }
 
 impl Command {

@@ -26,7 +26,12 @@ fn sheet_command(letter: u8, operands: &[u8]) -> Option<Command>
     match letter {
         b'A' => {
             let (house, list, number, quantity) = byte_byte_two_four(operands)?;
-            Some(Command::Quantity { house, list, number, quantity })
+            Some(Command::Quantity {
+                house,
+                list,
+                number,
+                quantity,
+            })
         }
         b'L' => {
             let (house, bits) = byte_four(operands)?;
@@ -56,15 +61,25 @@ fn network_command(letter: u8, operands: &[u8]) -> Option<Command>
         }
         b'K' => {
             let (parent, to_parent, to_child) = byte_four_four(operands)?;
-            Some(Command::Link { parent, to_parent, to_child })
+            Some(Command::Link {
+                parent,
+                to_parent,
+                to_child,
+            })
         }
         b'R' => {
             let (limit, sensitivities) = four_row(operands)?;
-            Some(Command::Row { limit, sensitivities })
+            Some(Command::Row {
+                limit,
+                sensitivities,
+            })
         }
         b'V' => {
             let (limit, sensitivities) = four_row(operands)?;
-            Some(Command::Monitor { limit, sensitivities })
+            Some(Command::Monitor {
+                limit,
+                sensitivities,
+            })
         }
         b'H' => {
             let (line, kwh) = byte_four(operands)?;
@@ -79,7 +94,11 @@ fn network_command(letter: u8, operands: &[u8]) -> Option<Command>
 fn nothing_more(operands: &[u8], command: Command) -> Option<Command>
     ensures { λ r. ⌜ BySome r (length (now (operands .entry)) ≡ 0 → ⊥) (λ same. (same ≡ command) × (now (operands .entry) ≡ [])) ⌝ }
 {
-    if operands.is_empty() { Some(command) } else { None }
+    if operands.is_empty() {
+        Some(command)
+    } else {
+        None
+    }
 }
 
 /// A command of an hour's orders or of its course.
@@ -89,19 +108,39 @@ fn hour_command(letter: u8, operands: &[u8]) -> Option<Command>
     match letter {
         b'O' => {
             let (house, zone, price, quantity) = byte_byte_four_four(operands)?;
-            Some(Command::Offer { house, zone, price, quantity })
+            Some(Command::Offer {
+                house,
+                zone,
+                price,
+                quantity,
+            })
         }
         b'B' => {
             let (house, zone, price, quantity) = byte_byte_four_four(operands)?;
-            Some(Command::Bid { house, zone, price, quantity })
+            Some(Command::Bid {
+                house,
+                zone,
+                price,
+                quantity,
+            })
         }
         b'T' => {
             let (house, first, second, price, quantity) = three_bytes_four_four(operands)?;
-            Some(Command::Transfer { house, first, second, price, quantity })
+            Some(Command::Transfer {
+                house,
+                first,
+                second,
+                price,
+                quantity,
+            })
         }
         b'W' => {
             let (house, list, number) = byte_byte_two(operands)?;
-            Some(Command::Withdraw { house, list, number })
+            Some(Command::Withdraw {
+                house,
+                list,
+                number,
+            })
         }
         b'C' => {
             let house = byte(operands)?;

@@ -37,7 +37,11 @@ pub(crate) fn byte_four_four(operands: &[u8]) -> Option<(u8, u32, u32)>
     if operands.len() != 9 {
         return None;
     }
-    Some((operands[0], four_bytes(operands, 1), four_bytes(operands, 5)))
+    Some((
+        operands[0],
+        four_bytes(operands, 1),
+        four_bytes(operands, 5),
+    ))
 }
 
 /// Two bytes and a number of two bytes.
@@ -67,7 +71,12 @@ pub(crate) fn byte_byte_two_four(operands: &[u8]) -> Option<(u8, u8, u16, u32)>
     if operands.len() != 8 {
         return None;
     }
-    Some((operands[0], operands[1], two_bytes(operands, 2), four_bytes(operands, 4)))
+    Some((
+        operands[0],
+        operands[1],
+        two_bytes(operands, 2),
+        four_bytes(operands, 4),
+    ))
 }
 
 /// Two bytes and two numbers of four bytes.
@@ -77,7 +86,12 @@ pub(crate) fn byte_byte_four_four(operands: &[u8]) -> Option<(u8, u8, u32, u32)>
     if operands.len() != 10 {
         return None;
     }
-    Some((operands[0], operands[1], four_bytes(operands, 2), four_bytes(operands, 6)))
+    Some((
+        operands[0],
+        operands[1],
+        four_bytes(operands, 2),
+        four_bytes(operands, 6),
+    ))
 }
 
 /// Three bytes and two numbers of four bytes.
@@ -87,7 +101,13 @@ pub(crate) fn three_bytes_four_four(operands: &[u8]) -> Option<(u8, u8, u8, u32,
     if operands.len() != 11 {
         return None;
     }
-    Some((operands[0], operands[1], operands[2], four_bytes(operands, 3), four_bytes(operands, 7)))
+    Some((
+        operands[0],
+        operands[1],
+        operands[2],
+        four_bytes(operands, 3),
+        four_bytes(operands, 7),
+    ))
 }
 
 /// A number of four bytes and a row of sensitivities.

@@ -2,6 +2,7 @@
 
 mod commands;
 mod decoding;
+mod encoding;
 mod faults;
 mod layouts;
 mod lengths;
@@ -10,6 +11,7 @@ mod reader;
 
 pub use commands::Command;
 pub use commands::SENSITIVITIES;
+pub use encoding::encode;
 pub use faults::ReadFaultRefusal;
 pub use lengths::operand_length;
 pub use reader::Item;

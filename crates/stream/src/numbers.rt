@@ -4,7 +4,6 @@ ghost use mathlib.Core.Path.{_≡_};
 ghost use Prim.Native.Nat.{_+_, _≤_, _<_};
 ghost use lib.ListN.{length, getD, take, drop};
 ghost use Rattle.stream.specs.Spelling.{le16, le32, signed16, signed32, sensitivities};
-
 use crate::commands::SENSITIVITIES;
 
 /// The two bytes at a place.
@@ -20,7 +19,12 @@ pub(crate) fn four_bytes(operands: &[u8], at: usize) -> u32
     requires { ⌜ at + 4 ≤ length (now operands) ⌝ }
     ensures { λ r. ⌜ le32 r ≡ take 4 (drop at (now (operands .entry))) ⌝ }
 {
-    u32::from_le_bytes([operands[at], operands[at + 1], operands[at + 2], operands[at + 3]])
+    u32::from_le_bytes([
+        operands[at],
+        operands[at + 1],
+        operands[at + 2],
+        operands[at + 3],
+    ])
 }
 
 /// The two bytes at a place, signed.

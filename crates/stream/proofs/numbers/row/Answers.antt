@@ -17,9 +17,10 @@ loop-i-again c =
     let fits : SFits w16 z = search needs in
     let same : toZ w16 (ofZ w16 z) ≡ z = toZ-ofZ w16 z fits in
     let inside : c .loop-i .i < length (c .loop-i .row) = omega (arith, c .loop-i .inv .0, c .loop-i-test .taken) in
-    rw same
-    (length-set (c .loop-i .row) (c .loop-i .i) z ∙ c .loop-i .inv .0,
-    row-more (c .loop-i .row) (c .loop-i .i) z (c .args .operands .now) (c .args .at) inside (c .loop-i .inv .1) (c .two-bytes-signed .ensures))
+    rw same (
+      length-set (c .loop-i .row) (c .loop-i .i) z ∙ c .loop-i .inv .0,
+      row-more (c .loop-i .row) (c .loop-i .i) z (c .args .operands .now) (c .args .at) inside (c .loop-i .inv .1) (c .two-bytes-signed .ensures),
+    )
 
 pub returns : need.returns
 returns c =
