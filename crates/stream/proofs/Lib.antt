@@ -1,5 +1,2 @@
 pub mod Standing
-pub mod Bytes
-pub mod Parts
 pub mod Rows
-mod Wholes

@@ -1,17 +1,12 @@
-//! The stream of commands: how each is spelled, a reader of items, and decoding and encoding of commands.
+//! The stream of commands: how each is spelled (see specs/), and a reader that cuts it into items.
 
 mod commands;
-mod decoding;
-mod encoding;
 mod faults;
-mod layouts;
 mod lengths;
-mod numbers;
 mod reader;
 
 pub use commands::Command;
 pub use commands::SENSITIVITIES;
-pub use encoding::encode;
 pub use faults::ReadFaultRefusal;
 pub use lengths::operand_length;
 pub use reader::Item;
