@@ -7,6 +7,8 @@ mod tests {
     use layers::Monitored;
     use layers::MonitoredNetwork;
     use network::Fault;
+    use network::FaultDebug;
+    use network::FaultPartialEq;
     use network::Network;
     use std::test::*;
     use table::Table;
@@ -24,15 +26,23 @@ mod tests {
         all
     }
 
-    fn limits<N: Network>(net: &N, expected: &[u32; 9]) -> Result<(), Fail> {
+    // The limits of lines 0 to 8.
+    fn shape<N: Network>(
+        net: &N,
+        zones: usize,
+        lines: usize,
+        limits: &[u32; 9],
+    ) -> Result<(), Fail> {
+        check_eq(net.zones(), zones)?;
+        check_eq(net.lines(), lines)?;
         for line in 0..9 {
-            check_eq(net.limit(line), expected[line])?;
+            check_eq(net.limit(line), limits[line])?;
         }
         Ok(())
     }
 
     // For zones 0 to 4.
-    fn sensitivities<N: Network>(net: &N, line: usize, expected: [i16; 5]) -> Result<(), Fail> {
+    fn row<N: Network>(net: &N, line: usize, expected: &[i16; 5]) -> Result<(), Fail> {
         for zone in 0..5 {
             check_eq(net.sensitivity(line, zone), expected[zone])?;
         }
@@ -52,19 +62,26 @@ mod tests {
     #[test]
     fn a_tree() -> Result<(), Fail> {
         let net = tree()?;
-        check_eq(net.zones(), 4)?;
-        check_eq(net.lines(), 6)?;
-        limits(&net, &[100, 200, 300, 400, 500, 600, 0, 0, 0])?;
+        shape(&net, 4, 6, &[100, 200, 300, 400, 500, 600, 0, 0, 0])?;
         // zones 1 and 2 are below line 0, which leads from 1 to 0
-        sensitivities(&net, 0, [0, 1000, 1000, 0, 0])?;
-        sensitivities(&net, 1, [0, -1000, -1000, 0, 0])?;
-        sensitivities(&net, 2, [0, 0, 1000, 0, 0])?;
-        sensitivities(&net, 5, [0, 0, 0, -1000, 0])?;
-        sensitivities(&net, 6, [0, 0, 0, 0, 0])
+        row(&net, 0, &[0, 1000, 1000, 0, 0])?;
+        row(&net, 1, &[0, -1000, -1000, 0, 0])?;
+        row(&net, 2, &[0, 0, 1000, 0, 0])?;
+        row(&net, 5, &[0, 0, 0, -1000, 0])?;
+        row(&net, 6, &[0, 0, 0, 0, 0])
     }
 
-    // A layer that watches line 6, over it one that holds back of lines 0, 3 and 6, over it one that watches line 7.
-    fn pile() -> Result<Monitored<HeldBack<Monitored<Tree>>>, Fail> {
+    #[test]
+    fn refused_links() -> Result<(), Fail> {
+        let mut net = tree()?;
+        // the next zone is 4, so it cannot be its own parent
+        check_eq(net.link(4, 1, 1), Err(Fault::Missing))?;
+        check_eq(net.link(3, 1, 10_000_001), Err(Fault::OutOfRange))?;
+        shape(&net, 4, 6, &[100, 200, 300, 400, 500, 600, 0, 0, 0])
+    }
+
+    // A layer that watches line 6, and over it one that holds back of lines 0, 3 and 6.
+    fn held() -> Result<HeldBack<Monitored<Tree>>, Fail> {
         let mut watched = Monitored::new(tree()?);
         watched.watch(700, four(10, -20, 30, 0))?;
         let mut held = HeldBack::new(watched);
@@ -73,90 +90,96 @@ mod tests {
         // the last amount counts
         held.hold_back(3, 1)?;
         held.hold_back(6, 1000)?;
-        let mut top = Monitored::new(held);
+        Ok(held)
+    }
+
+    // Over that, a layer that watches line 7.
+    fn pile() -> Result<Monitored<HeldBack<Monitored<Tree>>>, Fail> {
+        let mut top = Monitored::new(held()?);
         top.watch(800, four(1, 0, 0, -1))?;
         Ok(top)
     }
 
+    // Six lines of the tree and one of each layer that watches. The limits: 100 less 40, 400 less 1, and 700 less 1000, which is no less than 0.
     #[test]
     fn layers_over_a_tree() -> Result<(), Fail> {
         let net = pile()?;
-        check_eq(net.zones(), 4)?;
-        // six of the tree and one of each layer that watches
-        check_eq(net.lines(), 8)?;
-        // 100 less 40, 400 less 1, and 700 less 1000, which is no less than 0
-        limits(&net, &[60, 200, 300, 399, 500, 600, 0, 800, 0])?;
-        sensitivities(&net, 0, [0, 1000, 1000, 0, 0])?;
-        sensitivities(&net, 3, [0, 0, -1000, 0, 0])?;
-        sensitivities(&net, 6, [10, -20, 30, 0, 0])?;
-        sensitivities(&net, 7, [1, 0, 0, -1, 0])?;
-        sensitivities(&net, 8, [0, 0, 0, 0, 0])
+        shape(&net, 4, 8, &[60, 200, 300, 399, 500, 600, 0, 800, 0])?;
+        row(&net, 0, &[0, 1000, 1000, 0, 0])?;
+        row(&net, 3, &[0, 0, -1000, 0, 0])?;
+        row(&net, 6, &[10, -20, 30, 0, 0])?;
+        row(&net, 7, &[1, 0, 0, -1, 0])?;
+        row(&net, 8, &[0, 0, 0, 0, 0])
     }
 
     #[test]
-    fn refused_and_unaltered() -> Result<(), Fail> {
+    fn refused_rows() -> Result<(), Fail> {
         let mut net = pile()?;
         let mut fifth = [0; 24];
         fifth[4] = 1;
         // there is no zone 4; that is asked before the limit
         check_eq(net.watch(10_000_001, fifth), Err(Fault::Missing))?;
-        check_eq(
-            net.watch(10_000_001, four(1, 1, 1, 1)),
-            Err(Fault::OutOfRange),
-        )?;
         check_eq(net.watch(5, four(1, 1001, 1, 1)), Err(Fault::OutOfRange))?;
-        check_eq(net.lines(), 8)?;
-        limits(&net, &[60, 200, 300, 399, 500, 600, 0, 800, 0])?;
-        let mut over = HeldBack::new(net);
-        check_eq(over.hold_back(8, 1), Err(Fault::Missing))?;
-        check_eq(over.hold_back(7, 10_000_001), Err(Fault::OutOfRange))?;
-        limits(&over, &[60, 200, 300, 399, 500, 600, 0, 800, 0])?;
-        let mut tree = tree()?;
-        // the next zone is 4, so it cannot be its own parent
-        check_eq(tree.link(4, 1, 1), Err(Fault::Missing))?;
-        check_eq(tree.link(3, 1, 10_000_001), Err(Fault::OutOfRange))?;
-        check_eq(tree.zones(), 4)
+        shape(&net, 4, 8, &[60, 200, 300, 399, 500, 600, 0, 800, 0])
+    }
+
+    #[test]
+    fn refused_amounts() -> Result<(), Fail> {
+        let mut net = held()?;
+        check_eq(net.hold_back(7, 1), Err(Fault::Missing))?;
+        check_eq(net.hold_back(6, 10_000_001), Err(Fault::OutOfRange))?;
+        shape(&net, 4, 7, &[60, 200, 300, 399, 500, 600, 0, 0, 0])
     }
 
     // Two ways round a ring of three zones: of what is fed into zone 0 and taken out at zone 2, a third goes by zone 1.
-    #[test]
-    fn layers_over_a_table() -> Result<(), Fail> {
+    fn ring() -> Result<Table, Fail> {
         let mut ring = Table::new(3)?;
         ring.add(1000, four(333, 0, 0, 0))?;
         ring.add(2000, four(667, 0, 0, 0))?;
-        check_eq(ring.add(1, four(0, 0, 0, 7)), Err(Fault::Missing))?;
-        check_eq(ring.lines(), 2)?;
-        let mut held = HeldBack::new(ring);
+        Ok(ring)
+    }
+
+    #[test]
+    fn layers_over_a_table() -> Result<(), Fail> {
+        let mut held = HeldBack::new(ring()?);
         held.hold_back(1, 500)?;
         let mut net = Monitored::new(held);
         net.watch(30, four(0, -4, 5, 0))?;
-        check_eq(net.zones(), 3)?;
-        check_eq(net.lines(), 3)?;
-        limits(&net, &[1000, 1500, 30, 0, 0, 0, 0, 0, 0])?;
-        sensitivities(&net, 0, [333, 0, 0, 0, 0])?;
-        sensitivities(&net, 1, [667, 0, 0, 0, 0])?;
-        sensitivities(&net, 2, [0, -4, 5, 0, 0])
+        shape(&net, 3, 3, &[1000, 1500, 30, 0, 0, 0, 0, 0, 0])?;
+        row(&net, 1, &[667, 0, 0, 0, 0])?;
+        row(&net, 2, &[0, -4, 5, 0, 0])
     }
 
-    // A table holds 60 lines, and a layer 10 of its own, but 60 with those below.
     #[test]
-    fn no_place() -> Result<(), Fail> {
-        check_eq(Table::new(0).is_ok(), false)?;
-        check_eq(Table::new(25).is_ok(), false)?;
+    fn refused_table() -> Result<(), Fail> {
+        check(Table::new(0).is_err())?;
+        check(Table::new(25).is_err())?;
+        let mut net = ring()?;
+        check_eq(net.add(1, four(0, 0, 0, 7)), Err(Fault::Missing))?;
+        shape(&net, 3, 2, &[1000, 2000, 0, 0, 0, 0, 0, 0, 0])
+    }
+
+    // A table holds 60 lines, and so does a layer over it.
+    #[test]
+    fn full_table() -> Result<(), Fail> {
         let mut full = Table::new(1)?;
         for _ in 0..60 {
             full.add(5, four(1, 0, 0, 0))?;
         }
         check_eq(full.add(5, four(1, 0, 0, 0)), Err(Fault::NoPlace))?;
-        check_eq(full.lines(), 60)?;
         let mut over = Monitored::new(full);
         check_eq(over.watch(5, four(1, 0, 0, 0)), Err(Fault::NoPlace))?;
-        check_eq(over.lines(), 60)?;
-        let mut alone = Monitored::new(Tree::new());
+        check_eq(over.lines(), 60)
+    }
+
+    // A layer watches 10 lines of its own.
+    #[test]
+    fn full_layer() -> Result<(), Fail> {
+        let mut net = Monitored::new(Tree::new());
         for _ in 0..10 {
-            alone.watch(5, four(1, 0, 0, 0))?;
+            net.watch(5, four(1, 0, 0, 0))?;
         }
-        check_eq(alone.watch(5, four(1, 0, 0, 0)), Err(Fault::NoPlace))?;
-        check_eq(alone.lines(), 10)
+        check_eq(net.watch(5, four(1, 0, 0, 0)), Err(Fault::NoPlace))?;
+        check_eq(net.lines(), 10)
     }
 }
