@@ -8,7 +8,7 @@ ghost use Rattle.std.specs.Options.{Cases as BySome};
 ghost use Rattle.auction.specs.Grids.{no-line};
 ghost use Rattle.network.specs.Bounds.{Of-zones, Numbers-in-range};
 ghost use Rattle.auction.specs.Refusals.{Answered};
-ghost use Rattle.network.specs.Rows.{row-line, line-of, lines-of, Same-line};
+ghost use Rattle.network.specs.Rows.{row-line, line-of, lines-in, Same-line};
 ghost use Rattle.layers.specs.Watched.{watched-grid, Place-left};
 use super::MOST_WATCHED;
 use auction::Fault;
@@ -29,8 +29,8 @@ impl<N: Network> Monitored<N> {
     /// Watches no line yet.
     pub fn new(below: N) -> Monitored<N>
         ensures kept { λ r. ⌜ r .below ≡ below ⌝ }
-        ensures none { λ r. ⌜ lines-of (r .watched .count) (r .watched .rows) ≡ [] ⌝ }
-        ensures same { λ r. ⌜ watched-grid (N·Network .grid (r .below)) (lines-of (r .watched .count) (r .watched .rows)) .lines ≡ N·Network .grid below .lines ⌝ }
+        ensures none { λ r. ⌜ lines-in (r .watched) ≡ [] ⌝ }
+        ensures same { λ r. ⌜ watched-grid (N·Network .grid (r .below)) (lines-in (r .watched)) .lines ≡ N·Network .grid below .lines ⌝ }
     {
         let watched = RowList::new();
         Monitored { below, watched }
@@ -39,7 +39,7 @@ impl<N: Network> Monitored<N> {
     /// Watches a further line, after the others: refused where it has a sensitivity for a zone that is not there, else where a number is out of range, else
     /// where no place is left.
     pub fn watch(&mut self, limit: u32, sensitivities: [i16; MOST_ZONES]) -> Result<(), Fault>
-        ensures { λ r. ⌜ Answered r (Of-zones (N·Network .grid (now (self .entry) .below) .zones) sensitivities) (Numbers-in-range limit sensitivities) (Place-left (N·Network .grid (now (self .entry) .below)) (lines-of (now (self .entry) .watched .count) (now (self .entry) .watched .rows))) (λ _. (now (self .exit) .below ≡ now (self .entry) .below) × (watched-grid (N·Network .grid (now (self .exit) .below)) (lines-of (now (self .exit) .watched .count) (now (self .exit) .watched .rows)) .lines ≡ watched-grid (N·Network .grid (now (self .entry) .below)) (lines-of (now (self .entry) .watched .count) (now (self .entry) .watched .rows)) .lines ++ line-of limit sensitivities ∷ [])) ((now (self .exit) .below ≡ now (self .entry) .below) × (now (self .exit) .watched ≡ now (self .entry) .watched)) ⌝ }
+        ensures { λ r. ⌜ Answered r (Of-zones (N·Network .grid (now (self .entry) .below) .zones) sensitivities) (Numbers-in-range limit sensitivities) (Place-left (N·Network .grid (now (self .entry) .below)) (lines-in (now (self .entry) .watched))) (λ _. (now (self .exit) .below ≡ now (self .entry) .below) × (watched-grid (N·Network .grid (now (self .exit) .below)) (lines-in (now (self .exit) .watched)) .lines ≡ watched-grid (N·Network .grid (now (self .entry) .below)) (lines-in (now (self .entry) .watched)) .lines ++ line-of limit sensitivities ∷ [])) ((now (self .exit) .below ≡ now (self .entry) .below) × (now (self .exit) .watched ≡ now (self .entry) .watched)) ⌝ }
     {
         let row = Row::new(self.below.zones(), limit, sensitivities)?;
         if self.lines() >= MOST_LINES {
@@ -53,7 +53,7 @@ impl<N: Network> Monitored<N> {
 
     /// The row of a line that is watched here, blank where there is none, and nothing for a line below.
     fn row(&self, line: usize) -> Option<Row>
-        ensures { λ r. ⌜ BySome r (getD (watched-grid (N·Network .grid (now (self .entry) .below)) (lines-of (now (self .entry) .watched .count) (now (self .entry) .watched .rows)) .lines) line no-line ≡ getD (N·Network .grid (now (self .entry) .below) .lines) line no-line) (λ row. Same-line (row-line row) (getD (watched-grid (N·Network .grid (now (self .entry) .below)) (lines-of (now (self .entry) .watched .count) (now (self .entry) .watched .rows)) .lines) line no-line)) ⌝ }
+        ensures { λ r. ⌜ BySome r (getD (watched-grid (N·Network .grid (now (self .entry) .below)) (lines-in (now (self .entry) .watched)) .lines) line no-line ≡ getD (N·Network .grid (now (self .entry) .below) .lines) line no-line) (λ row. Same-line (row-line row) (getD (watched-grid (N·Network .grid (now (self .entry) .below)) (lines-in (now (self .entry) .watched)) .lines) line no-line)) ⌝ }
     {
         let below = self.below.lines();
         if line < below {
@@ -67,7 +67,7 @@ impl<N: Network> Monitored<N> {
 }
 
 pub impl<N: Network> Network for Monitored<N> as MonitoredNetwork {
-    ghost grid = { λ m. watched-grid (N·Network .grid (m .below)) (lines-of (m .watched .count) (m .watched .rows)) };
+    ghost grid = { λ m. watched-grid (N·Network .grid (m .below)) (lines-in (m .watched)) };
 
     fn zones(&self) -> usize {
         self.below.zones()

@@ -6,13 +6,13 @@ ghost use lib.Dec.{ltb};
 ghost use lib.ListN.{length, getD};
 ghost use Rattle.std.specs.Orderings.{When};
 ghost use Rattle.auction.specs.Grids.{no-line};
-ghost use Rattle.network.specs.Rows.{row-line, lines-of, Same-line};
+ghost use Rattle.network.specs.Rows.{row-line, lines-in, Same-line};
 use super::Row;
 use super::RowList;
 
 impl<const N: usize> RowList<N> {
     pub fn new() -> RowList<N>
-        ensures { λ r. ⌜ lines-of (r .count) (r .rows) ≡ [] ⌝ }
+        ensures { λ r. ⌜ lines-in r ≡ [] ⌝ }
     {
         let blank = Row::blank();
         RowList {
@@ -22,14 +22,14 @@ impl<const N: usize> RowList<N> {
     }
 
     pub fn len(&self) -> usize
-        ensures { λ r. ⌜ r ≡ length (lines-of (now (self .entry) .count) (now (self .entry) .rows)) ⌝ ∗ ⌜ r ≡ now (self .entry) .count ⌝ }
+        ensures { λ r. ⌜ r ≡ length (lines-in (now (self .entry))) ⌝ ∗ ⌜ r ≡ now (self .entry) .count ⌝ }
     {
         self.count
     }
 
     /// The row at an index, and a blank one where there is none.
     pub fn at(&self, index: usize) -> Row
-        ensures { λ r. ⌜ Same-line (row-line r) (getD (lines-of (now (self .entry) .count) (now (self .entry) .rows)) index no-line) ⌝ }
+        ensures { λ r. ⌜ Same-line (row-line r) (getD (lines-in (now (self .entry))) index no-line) ⌝ }
     {
         if index >= self.count {
             return Row::blank();
@@ -39,7 +39,7 @@ impl<const N: usize> RowList<N> {
 
     /// Adds a row after the others, and says whether there was a place for it.
     pub fn push(&mut self, row: Row) -> bool
-        ensures { λ r. ⌜ r ≡ ltb (length (lines-of (now (self .entry) .count) (now (self .entry) .rows))) N ⌝ ∗ ⌜ When r (lines-of (now (self .exit) .count) (now (self .exit) .rows) ≡ lines-of (now (self .entry) .count) (now (self .entry) .rows) ++ row-line row ∷ []) (now (self .exit) ≡ now (self .entry)) ⌝ }
+        ensures { λ r. ⌜ r ≡ ltb (length (lines-in (now (self .entry)))) N ⌝ ∗ ⌜ When r (lines-in (now (self .exit)) ≡ lines-in (now (self .entry)) ++ row-line row ∷ []) (now (self .exit) ≡ now (self .entry)) ⌝ }
     {
         let count = self.len();
         if count >= N {

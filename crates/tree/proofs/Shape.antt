@@ -19,19 +19,15 @@ use Rattle.auction.specs.Grids.{Line, Grid, no-line, line-count, limitAt, sensi
 use Rattle.tree.specs.declared.grown.Link.{Link}
 use Rattle.tree.specs.declared.grown.Tree.{Tree}
 use Rattle.tree.specs.Links.{most-links, linkOf, no-link, zone-count, Descends}
-use Rattle.tree.specs.Trees.{links-of, share, line-to-parent, line-to-child, tree-line, tree-grid, Tree-shaped}
+use Rattle.tree.specs.Trees.{links-of, share, line-to-parent, line-to-child, tree-line, tree-lines, tree-grid, Tree-shaped}
 use Rattle.tree.proofs.Descent.{Rooted, rooted-take, share-below, share-elsewhere, share-in-range}
 
-pub zones-is : (links : List Link) → tree-grid links .zones ≡ zone-count links
-unfolding tree-grid
-zones-is links = refl
-
 pub lines-is : (links : List Link) → line-count (tree-grid links) ≡ 2 * length links
-unfolding tree-grid
+unfolding tree-lines
 lines-is links = length-map-counting (tree-line links) 0 (2 * length links)
 
 pub line-within : (links : List Link) (l : ℕ) → l < 2 * length links → getD (tree-grid links .lines) l no-line ≡ tree-line links l
-unfolding tree-grid
+unfolding tree-lines
 line-within links l within = getD-map-counting (tree-line links) 0 (2 * length links) l l no-line within (omega arith)
 
 pub line-past : (links : List Link) (l : ℕ) → 2 * length links ≤ l → getD (tree-grid links .lines) l no-line ≡ no-line
@@ -53,10 +49,10 @@ pub child-line : (links : List Link) (c l : ℕ) → l < 2 * length links → (l
 child-line links c l within odd e = line-within links l within ∙ odd-line links l odd ∙ ap (line-to-child links) e
 
 pub zone-within : (links : List Link) (l z : ℕ) → z < zone-count links → sensitivityAt (tree-grid links) l z ≡ getD (tree-grid links .lines) l no-line .sensitivity z
-zone-within links l z within = let e : ltb z (tree-grid links .zones) ≡ true = grind (arith, tells, zones-is links) in rw e refl
+zone-within links l z within = let e : ltb z (tree-grid links .zones) ≡ true = grind (arith, tells) in rw e refl
 
 pub zone-past : (links : List Link) (l z : ℕ) → zone-count links ≤ z → sensitivityAt (tree-grid links) l z ≡ pos 0
-zone-past links l z past = let e : ltb z (tree-grid links .zones) ≡ false = grind (arith, tells, zones-is links) in rw e refl
+zone-past links l z past = let e : ltb z (tree-grid links .zones) ≡ false = grind (arith, tells) in rw e refl
 
 pub to-parent : (links : List Link) (c l z : ℕ) → z < zone-count links → l < 2 * length links → l % 2 ≡ 0 → l / 2 + 1 ≡ c → sensitivityAt (tree-grid links) l z ≡ share links c z
 to-parent links c l z zone within even e = zone-within links l z zone ∙ ap (λ (line : Line). line .sensitivity z) (parent-line links c l within even e)
@@ -108,7 +104,7 @@ limit-to-child links l within odd = ap (λ (line : Line). line .limit) (child-li
 pub tree-shaped : (links : List Link) → Rooted links → Tree-shaped links (tree-grid links)
 tree-shaped links rooted =
     record {
-      zones = zones-is links;
+      zones = refl;
       lines = lines-is links ∙ omega arith;
       limit-to-parent = λ c p w. ap (λ (line : Line). line .limit) (parent-line links c (2 * (c - 1)) (omega arith) (omega arith) (omega arith));
       limit-to-child = λ c p w. ap (λ (line : Line). line .limit) (child-line links c (2 * (c - 1) + 1) (omega arith) (omega arith) (omega arith));

@@ -33,8 +33,11 @@ line-to-child links c = record { limit = linkOf links c .«to_child»; sensitivi
 unfoldable pub tree-line : List Link → ℕ → Line
 tree-line links l = cond (eqb (l % 2) 0) (line-to-parent links (l / 2 + 1)) (line-to-child links (l / 2 + 1))
 
-unfoldable pub tree-grid : List Link → Grid
-tree-grid links = record { zones = zone-count links; lines = map (tree-line links) (counting 0 (2 * length links)) }
+unfoldable pub tree-lines : List Link → List Line
+tree-lines links = map (tree-line links) (counting 0 (2 * length links))
+
+abbrev pub tree-grid : List Link → Grid
+tree-grid links = record { zones = zone-count links; lines = tree-lines links }
 
 -- The network that a tree means: zone c, which is not 0, gives line 2(c - 1), from c to its parent, and the next line, the other way.
 pub record Tree-shaped (links : List Link) (g : Grid) : Type 0 where

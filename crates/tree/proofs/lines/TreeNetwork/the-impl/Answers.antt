@@ -1,13 +1,7 @@
 use native.Mathlib.Omega.{arith}
 use Rattle.tree.specs.Trees.{links-of}
-use Rattle.tree.proofs.Shape.{link-count, zones-is, lines-is, limit-in-range, sensitivity-in-range}
+use Rattle.tree.proofs.Shape.{link-count, lines-is, limit-in-range, sensitivity-in-range}
 use Rattle.tree.proofs.lines.TreeNetwork.the-impl.Needs as need
-
-pub zoned-law : need.zoned-law
-zoned-law t = omega (arith, zones-is (links-of t))
-
-pub fewzones-law : need.fewzones-law
-fewzones-law t = omega (arith, zones-is (links-of t), link-count t)
 
 pub fewlines-law : need.fewlines-law
 fewlines-law t = omega (arith, lines-is (links-of t), link-count t)
