@@ -1,0 +1,5 @@
+//! The network block of a stream: from its first command to the one that opens the box.
+
+mod phases;
+
+pub use phases::Phase;
