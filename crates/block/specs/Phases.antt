@@ -1,8 +1,16 @@
 -- Which commands the network block allows, and how far it has come after one that was accepted.
-use Prim.Native.Nat.{ℕ, zero, suc, _-_}
+use Prim.Native.Nat.{ℕ, zero, suc, _-_, _≤_}
+use mathlib.Core.Path.{_≡_}
 use mathlib.Core.Bool.{Bool, true, false}
 use Rattle.stream.specs.declared.commands.Command.{Command}
 use Rattle.stream.specs.declared.commands.Command.the-variants.{Tree, Table, Link, Row, Monitor, HoldBack, Open, Offer, Bid, Transfer, Withdraw, Close, Try, Settle, Void, Quantity, Lambda, ShadowPrice}
+use Rattle.stream.specs.Spelling.{house-of}
+use Rattle.std.specs.declared.option.Option.{Option}
+use Rattle.std.specs.declared.option.Option.the-variants.{Some, None}
+use Rattle.std.specs.declared.result.Result.{Result}
+use Rattle.std.specs.declared.result.Result.the-variants.{Ok, Err}
+use Rattle.auction.specs.declared.Refusal.{Refusal}
+use Rattle.auction.specs.declared.Refusal.the-variants.{NoCommand, NoOperands, Stranger, NotNow, Missing, OutOfRange, NotOwn, NoPlace, NoTry, Sheet}
 use Rattle.block.specs.declared.phases.Phase.{Phase}
 use Rattle.block.specs.declared.phases.Phase.the-variants.{Start, Links, Linked, Rows, Monitored, HeldBack}
 use Rattle.block.specs.declared.phases.Phase.the-variants as Reached
@@ -112,3 +120,22 @@ next-phase p (Void _) = p
 next-phase p (Quantity _ _ _ _) = p
 next-phase p (Lambda _ _) = p
 next-phase p (ShadowPrice _ _ _) = p
+
+-- a house that is neither 0 nor 1
+abbrev pub Strange : Option ℕ → Type 0
+Strange None = ⊥
+Strange (Some house) = 2 ≤ house
+
+-- the answer to a command: a stranger's is refused first, then one that is not allowed now
+abbrev pub Allowed-next : Phase → Command → Result Phase Refusal → Type 0
+Allowed-next p c (Ok next) = (Strange (house-of c) → ⊥) × (allowed p c ≡ true) × (next ≡ next-phase p c)
+Allowed-next p c (Err NoCommand) = ⊥
+Allowed-next p c (Err NoOperands) = ⊥
+Allowed-next p c (Err Stranger) = Strange (house-of c)
+Allowed-next p c (Err NotNow) = (Strange (house-of c) → ⊥) × (allowed p c ≡ false)
+Allowed-next p c (Err Missing) = ⊥
+Allowed-next p c (Err OutOfRange) = ⊥
+Allowed-next p c (Err NotOwn) = ⊥
+Allowed-next p c (Err NoPlace) = ⊥
+Allowed-next p c (Err NoTry) = ⊥
+Allowed-next p c (Err (Sheet _)) = ⊥

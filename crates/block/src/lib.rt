@@ -3,3 +3,4 @@
 mod phases;
 
 pub use phases::Phase;
+pub use phases::allow;

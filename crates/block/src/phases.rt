@@ -4,7 +4,8 @@ ghost use mathlib.Core.Path.{_≡_};
 ghost use mathlib.Core.Bool.{true, false};
 ghost use Rattle.std.specs.Results.{Cases};
 ghost use Rattle.auction.specs.declared.Refusal.the-variants.{NotNow};
-ghost use Rattle.block.specs.Phases.{allowed, links-to-come, next-phase};
+ghost use Rattle.block.specs.Phases.{Allowed-next, allowed, links-to-come, next-phase};
+use auction::House;
 use auction::Refusal;
 use stream::Command;
 
@@ -58,4 +59,14 @@ fn advance(phase: Phase, command: &Command) -> Result<Phase, Refusal>
         ),
         _ => Err(Refusal::NotNow),
     }
+}
+
+/// Where the block stands after a command, if its house is one of the two and the block allows it now.
+pub fn allow(phase: Phase, command: &Command) -> Result<Phase, Refusal>
+    ensures { λ r. ⌜ Allowed-next phase (now (command .entry)) r ⌝ }
+{
+    if let Some(number) = command.house() {
+        let _house = House::numbered(number)?;
+    }
+    advance(phase, command)
 }

@@ -46,7 +46,7 @@ impl Amounts {
 }
 
 /// Each line's limit is lowered by the amount that is held back of it, to no less than 0.
-#[derive(Drop)]
+#[derive(Clone, Copy)]
 pub struct HeldBack<N> {
     below: N,
     amounts: Amounts,

@@ -19,7 +19,7 @@ use network::Row;
 use network::RowList;
 
 /// The lines below come first, then the watched ones, 60 in all.
-#[derive(Drop)]
+#[derive(Clone, Copy)]
 pub struct Monitored<N> {
     below: N,
     watched: RowList<MOST_WATCHED>,
