@@ -1,6 +1,8 @@
 //! The network block of a stream: from its first command to the one that opens the box.
 
+mod draft;
 mod phases;
 
+pub use draft::Draft;
 pub use phases::Phase;
 pub use phases::allow;

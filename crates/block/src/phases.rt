@@ -29,7 +29,7 @@ pub enum Phase {
 }
 
 /// Where a tree stands of which so many links are still to come.
-fn to_come(missing: u8) -> Phase
+pub(crate) fn to_come(missing: u8) -> Phase
     ensures { λ r. ⌜ r ≡ links-to-come missing ⌝ }
 {
     if missing == 0 {

@@ -1,0 +1,92 @@
+//! The ground of a network as the block gives it: a tree that still grows, or a table.
+
+ghost use mathlib.Core.Path.{_≡_};
+ghost use mathlib.Core.List.{[], _∷_, _++_};
+ghost use Rattle.auction.specs.Refusals.{Always, Answered};
+ghost use Rattle.network.specs.Bounds.{Of-zones, Numbers-in-range};
+ghost use Rattle.network.specs.Rows.{line-of};
+ghost use Rattle.table.specs.Tables.{Zones-exist};
+ghost use Rattle.block.specs.Drafts.{Is-tree, Is-table, Linked-on, Rowed-on, phase-of};
+use crate::phases::Phase;
+use crate::phases::to_come;
+use auction::Fault;
+use network::MOST_ZONES;
+use network::Network;
+use table::Table;
+use tree::Tree;
+use tree::TreeNetwork;
+
+/// What the block has given so far of the network below all layers.
+#[derive(Clone, Copy)]
+pub enum Draft {
+    Nothing,
+    /// A tree that is to have so many zones.
+    Growing { tree: Tree, zones: u8 },
+    Tabled { table: Table },
+}
+
+impl Draft {
+    /// How far the block has come.
+    pub fn phase(&self) -> Phase
+        ensures { λ r. ⌜ r ≡ phase-of (now (self .entry)) ⌝ }
+    {
+        match *self {
+            Draft::Nothing => Phase::Start,
+            Draft::Growing { tree, zones } => {
+                let there = tree.zones();
+                to_come((zones as usize).saturating_sub(there) as u8)
+            }
+            Draft::Tabled { .. } => Phase::Rows,
+        }
+    }
+
+    /// A tree of so many zones, of which only zone 0 is there yet.
+    fn plant(zones: u8) -> Result<Draft, Fault>
+        ensures { λ r. ⌜ Answered r (Zones-exist zones) Always Always (λ draft. Is-tree draft [] zones) Always ⌝ }
+    {
+        if zones < 1 {
+            return Err(Fault::Missing);
+        }
+        if zones as usize > MOST_ZONES {
+            return Err(Fault::Missing);
+        }
+        let tree = Tree::new();
+        Ok(Draft::Growing { tree, zones })
+    }
+
+    /// A table of so many zones without a row.
+    fn lay_out(zones: u8) -> Result<Draft, Fault>
+        ensures { λ r. ⌜ Answered r (Zones-exist zones) Always Always (λ draft. Is-table draft zones []) Always ⌝ }
+    {
+        let table = Table::new(zones)?;
+        Ok(Draft::Tabled { table })
+    }
+
+    /// The next zone of a tree.
+    fn link(&self, parent: u8, to_parent: u32, to_child: u32) -> Result<Draft, Fault>
+        ensures { λ r. ⌜ Linked-on (now (self .entry)) parent «to_parent» «to_child» r ⌝ }
+    {
+        match *self {
+            Draft::Growing { tree, zones } => {
+                let mut tree = tree;
+                tree.link(parent, to_parent, to_child)?;
+                Ok(Draft::Growing { tree, zones })
+            }
+            _ => Err(Fault::Missing),
+        }
+    }
+
+    /// The next row of a table.
+    fn add(&self, limit: u32, sensitivities: [i16; MOST_ZONES]) -> Result<Draft, Fault>
+        ensures { λ r. ⌜ Rowed-on (now (self .entry)) limit sensitivities r ⌝ }
+    {
+        match *self {
+            Draft::Tabled { table } => {
+                let mut table = table;
+                table.add(limit, sensitivities)?;
+                Ok(Draft::Tabled { table })
+            }
+            _ => Err(Fault::Missing),
+        }
+    }
+}
