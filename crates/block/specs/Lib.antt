@@ -1,2 +1,3 @@
 pub mod Phases
 pub mod Drafts
+pub mod Layerings

@@ -2,16 +2,21 @@
 
 ghost use Prim.Native.Nat.{_-_, _≤_, _<_};
 ghost use mathlib.Core.Path.{_≡_};
+ghost use mathlib.Core.List.{[], _∷_, _++_};
 ghost use lib.ListN.{getD, set, replicate};
 ghost use denote.Ref.{now};
 ghost use Rattle.auction.specs.Grids.{line-count};
-ghost use Rattle.network.specs.Bounds.{most-lines, most-kWh};
+ghost use Rattle.network.specs.Bounds.{most-lines, most-kWh, Of-zones, Numbers-in-range};
+ghost use Rattle.network.specs.Rows.{line-of, lines-of};
+ghost use Rattle.layers.specs.Watched.{watched-grid, Place-left};
 ghost use Rattle.auction.specs.Refusals.{Always, Answered};
 ghost use Rattle.layers.specs.Lowered.{lowered-grid, Holds, Holds-nothing};
 use super::amounts::Amounts;
+use super::monitored::Monitored;
 use auction::Fault;
 use network::MOST_KWH;
 use network::MOST_LINES;
+use network::MOST_ZONES;
 use network::Network;
 
 impl Amounts {
@@ -74,6 +79,16 @@ impl<N: Network> HeldBack<N> {
         }
         self.amounts.hold(line, kwh);
         Ok(())
+    }
+}
+
+impl<N: Network> HeldBack<Monitored<N>> {
+    /// Watches a further line below, under the questions of that layer; what is held back stays.
+    pub fn watch(&mut self, limit: u32, sensitivities: [i16; MOST_ZONES]) -> Result<(), Fault>
+        ensures watched { λ r. ⌜ Answered r (Of-zones (N·Network .grid (now (self .entry) .below .below) .zones) sensitivities) (Numbers-in-range limit sensitivities) (Place-left (N·Network .grid (now (self .entry) .below .below)) (lines-of (now (self .entry) .below .watched .count) (now (self .entry) .below .watched .rows))) (λ _. (now (self .exit) .below .below ≡ now (self .entry) .below .below) × (watched-grid (N·Network .grid (now (self .exit) .below .below)) (lines-of (now (self .exit) .below .watched .count) (now (self .exit) .below .watched .rows)) .lines ≡ watched-grid (N·Network .grid (now (self .entry) .below .below)) (lines-of (now (self .entry) .below .watched .count) (now (self .entry) .below .watched .rows)) .lines ++ line-of limit sensitivities ∷ [])) ((now (self .exit) .below .below ≡ now (self .entry) .below .below) × (now (self .exit) .below .watched ≡ now (self .entry) .below .watched)) ⌝ }
+        ensures held { λ _. ⌜ now (self .exit) .amounts ≡ now (self .entry) .amounts ⌝ }
+    {
+        self.below.watch(limit, sensitivities)
     }
 }
 

@@ -1,0 +1,54 @@
+-- What the block's commands do to the layers over the ground of a network.
+use Prim.Native.Nat.{ℕ, _≤_, _<_}
+use mathlib.Core.Path.{_≡_}
+use mathlib.Core.Bool.{true, false}
+use mathlib.Core.List.{List, [], _∷_, _++_}
+use lib.IntN.{ℤ}
+use Rattle.std.specs.declared.result.Result.{Result}
+use Rattle.std.specs.declared.result.Result.the-variants.{Ok, Err}
+use Rattle.auction.specs.declared.Fault.{Fault}
+use Rattle.auction.specs.declared.Refusal.{Refusal}
+use Rattle.auction.specs.declared.Refusal.the-variants.{Stranger, NotNow}
+use Rattle.auction.specs.Refusals.{Answered, Always, refusal-of}
+use Rattle.auction.specs.Grids.{Grid, Line, line-count}
+use Rattle.network.specs.Bounds.{most-kWh, Of-zones, Numbers-in-range}
+use Rattle.network.specs.Rows.{line-of}
+use Rattle.layers.specs.Watched.{watched-grid, Place-left}
+use Rattle.layers.specs.Lowered.{lowered-grid, Holds}
+use Rattle.stream.specs.declared.commands.Command.{Command}
+use Rattle.stream.specs.declared.commands.Command.the-variants.{Monitor, HoldBack, Open}
+use Rattle.stream.specs.Spelling.{house-of}
+use Rattle.block.specs.declared.phases.Phase.{Phase}
+use Rattle.block.specs.declared.phases.Phase.the-variants as Reached
+use Rattle.block.specs.declared.layered.Stage.{Stage}
+use Rattle.block.specs.declared.layered.Stage.the-variants as Given
+use Rattle.block.specs.Phases.{Strange, allowed}
+
+abbrev pub stage-phase : Stage → Phase
+stage-phase Given.Bare = Reached.Linked
+stage-phase Given.Watched = Reached.Monitored
+stage-phase Given.Held = Reached.HeldBack
+stage-phase Given.Open = Reached.Open
+
+-- a fault of a network's addition, told as a refusal
+abbrev pub told : {X : Type 0} → Result X Fault → Result X Refusal
+told (Ok x) = Ok x
+told (Err fault) = Err (refusal-of fault)
+
+-- an answer is the telling of one with this property
+abbrev pub Tells : {X : Type 0} → Result X Refusal → (Result X Fault → Type 0) → Type 0
+Tells {X} r P = (f : Result X Fault) × P f × (r ≡ told f)
+
+-- nothing has changed
+pub record Unchanged (stage : Stage) (watched : List Line) (held : List ℕ) (stage′ : Stage) (watched′ : List Line) (held′ : List ℕ) : Type 0 where
+  pub same-stage : stage′ ≡ stage
+  pub same-lines : watched′ ≡ watched
+  pub same-amounts : held′ ≡ held
+
+-- The answer to a command, and what then lies over the ground: a stranger's is refused first, then one that is not allowed now; a monitored line and a held-back amount go to their layer, and the last command opens the box.
+pub record Laid (ground : Grid) (c : Command) (r : Result (Unit {0}) Refusal) (stage : Stage) (watched : List Line) (held : List ℕ) (stage′ : Stage) (watched′ : List Line) (held′ : List ℕ) : Type 0 where
+  pub stranger : Strange (house-of c) → (r ≡ Err Stranger) × Unchanged stage watched held stage′ watched′ held′
+  pub not-now : (Strange (house-of c) → ⊥) → allowed (stage-phase stage) c ≡ false → (r ≡ Err NotNow) × Unchanged stage watched held stage′ watched′ held′
+  pub monitored : (limit : ℕ) (row : List ℤ) → c ≡ Monitor limit row → allowed (stage-phase stage) c ≡ true → Tells r (λ f. Answered f (Of-zones (ground .zones) row) (Numbers-in-range limit row) (Place-left ground watched) (λ _. (watched-grid ground watched′ .lines ≡ watched-grid ground watched .lines ++ line-of limit row ∷ []) × (held′ ≡ held) × (stage′ ≡ Given.Watched)) (Unchanged stage watched held stage′ watched′ held′))
+  pub held-back : (line kwh : ℕ) → c ≡ HoldBack line kwh → allowed (stage-phase stage) c ≡ true → Tells r (λ f. Answered f (line < line-count (watched-grid ground watched)) (kwh ≤ most-kWh) Always (λ _. Holds (watched-grid ground watched) (lowered-grid (watched-grid ground watched) held) (lowered-grid (watched-grid ground watched′) held′) line kwh × (watched′ ≡ watched) × (stage′ ≡ Given.Held)) (Unchanged stage watched held stage′ watched′ held′))
+  pub opened : c ≡ Open → allowed (stage-phase stage) c ≡ true → (r ≡ Ok tt) × (stage′ ≡ Given.Open) × (watched′ ≡ watched) × (held′ ≡ held)
