@@ -1,6 +1,7 @@
 -- The ground of a network while the block gives it.
 use Prim.Native.Nat.{ℕ, _-_, _<_}
 use mathlib.Core.Path.{_≡_}
+use mathlib.Core.Bool.{true, false}
 use mathlib.Core.List.{List, [], _∷_, _++_}
 use lib.IntN.{ℤ}
 use lib.ListN.{length}
@@ -8,6 +9,11 @@ use Rattle.std.specs.declared.result.Result.{Result}
 use Rattle.std.specs.declared.result.Result.the-variants.{Ok, Err}
 use Rattle.auction.specs.declared.Fault.{Fault}
 use Rattle.auction.specs.declared.Fault.the-variants.{Missing}
+use Rattle.auction.specs.declared.Refusal.{Refusal}
+use Rattle.auction.specs.declared.Refusal.the-variants.{Stranger, NotNow}
+use Rattle.stream.specs.declared.commands.Command.{Command}
+use Rattle.stream.specs.declared.commands.Command.the-variants as Word
+use Rattle.stream.specs.Spelling.{house-of}
 use Rattle.auction.specs.Refusals.{Answered, Always}
 use Rattle.auction.specs.Grids.{Line}
 use Rattle.network.specs.Bounds.{most-lines, Of-zones, Numbers-in-range}
@@ -15,12 +21,12 @@ use Rattle.network.specs.Rows.{line-of}
 use Rattle.tree.specs.declared.grown.Link.{Link}
 use Rattle.tree.specs.Links.{link-of, zone-count, Next-exists, Limits-in-range}
 use Rattle.tree.specs.Trees.{links-of}
-use Rattle.table.specs.Tables.{table-grid}
+use Rattle.table.specs.Tables.{table-grid, Zones-exist}
 use Rattle.block.specs.declared.phases.Phase.{Phase}
 use Rattle.block.specs.declared.phases.Phase.the-variants.{Start, Rows}
 use Rattle.block.specs.declared.draft.Draft.{Draft}
 use Rattle.block.specs.declared.draft.Draft.the-variants.{Nothing, Growing, Tabled}
-use Rattle.block.specs.Phases.{links-to-come}
+use Rattle.block.specs.Phases.{Strange, Tells, allowed, links-to-come}
 
 -- a tree with these links, of so many zones when it is whole
 abbrev pub Is-tree : Draft → List Link → ℕ → Type 0
@@ -50,3 +56,12 @@ abbrev pub Rowed-on : Draft → ℕ → List ℤ → Result Draft Fault → Type
 Rowed-on Nothing limit row r = r ≡ Err Missing
 Rowed-on (Growing tree zones) limit row r = r ≡ Err Missing
 Rowed-on (Tabled table) limit row r = Answered r (Of-zones (table-grid table .zones) row) (Numbers-in-range limit row) (length (table-grid table .lines) < most-lines) (λ after. Is-table after (table-grid table .zones) (table-grid table .lines ++ line-of limit row ∷ [])) Always
+
+-- The answer to a command of the ground: a stranger's is refused first, then one that is not allowed now; each of the four is answered by the tree or the table.
+pub record Grown (d : Draft) (c : Command) (r : Result Draft Refusal) : Type 0 where
+  pub stranger : Strange (house-of c) → r ≡ Err Stranger
+  pub not-now : (Strange (house-of c) → ⊥) → allowed (phase-of d) c ≡ false → r ≡ Err NotNow
+  pub planted : (zones : ℕ) → c ≡ Word.Tree zones → allowed (phase-of d) c ≡ true → Tells r (λ f. Answered f (Zones-exist zones) Always Always (λ after. Is-tree after [] zones) Always)
+  pub laid-out : (zones : ℕ) → c ≡ Word.Table zones → allowed (phase-of d) c ≡ true → Tells r (λ f. Answered f (Zones-exist zones) Always Always (λ after. Is-table after zones []) Always)
+  pub linked : (parent up down : ℕ) → c ≡ Word.Link parent up down → allowed (phase-of d) c ≡ true → Tells r (Linked-on d parent up down)
+  pub rowed : (limit : ℕ) (row : List ℤ) → c ≡ Word.Row limit row → allowed (phase-of d) c ≡ true → Tells r (Rowed-on d limit row)

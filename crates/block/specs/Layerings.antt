@@ -6,10 +6,9 @@ use mathlib.Core.List.{List, [], _∷_, _++_}
 use lib.IntN.{ℤ}
 use Rattle.std.specs.declared.result.Result.{Result}
 use Rattle.std.specs.declared.result.Result.the-variants.{Ok, Err}
-use Rattle.auction.specs.declared.Fault.{Fault}
 use Rattle.auction.specs.declared.Refusal.{Refusal}
 use Rattle.auction.specs.declared.Refusal.the-variants.{Stranger, NotNow}
-use Rattle.auction.specs.Refusals.{Answered, Always, refusal-of}
+use Rattle.auction.specs.Refusals.{Answered, Always}
 use Rattle.auction.specs.Grids.{Grid, Line, line-count}
 use Rattle.network.specs.Bounds.{most-kWh, Of-zones, Numbers-in-range}
 use Rattle.network.specs.Rows.{line-of}
@@ -22,22 +21,13 @@ use Rattle.block.specs.declared.phases.Phase.{Phase}
 use Rattle.block.specs.declared.phases.Phase.the-variants as Reached
 use Rattle.block.specs.declared.layered.Stage.{Stage}
 use Rattle.block.specs.declared.layered.Stage.the-variants as Given
-use Rattle.block.specs.Phases.{Strange, allowed}
+use Rattle.block.specs.Phases.{Strange, Tells, allowed}
 
 abbrev pub stage-phase : Stage → Phase
 stage-phase Given.Bare = Reached.Linked
 stage-phase Given.Watched = Reached.Monitored
 stage-phase Given.Held = Reached.HeldBack
 stage-phase Given.Open = Reached.Open
-
--- a fault of a network's addition, told as a refusal
-abbrev pub told : {X : Type 0} → Result X Fault → Result X Refusal
-told (Ok x) = Ok x
-told (Err fault) = Err (refusal-of fault)
-
--- an answer is the telling of one with this property
-abbrev pub Tells : {X : Type 0} → Result X Refusal → (Result X Fault → Type 0) → Type 0
-Tells {X} r P = (f : Result X Fault) × P f × (r ≡ told f)
 
 -- nothing has changed
 pub record Unchanged (stage : Stage) (watched : List Line) (held : List ℕ) (stage′ : Stage) (watched′ : List Line) (held′ : List ℕ) : Type 0 where

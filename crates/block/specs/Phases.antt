@@ -9,6 +9,8 @@ use Rattle.std.specs.declared.option.Option.{Option}
 use Rattle.std.specs.declared.option.Option.the-variants.{Some, None}
 use Rattle.std.specs.declared.result.Result.{Result}
 use Rattle.std.specs.declared.result.Result.the-variants.{Ok, Err}
+use Rattle.auction.specs.declared.Fault.{Fault}
+use Rattle.auction.specs.Refusals.{refusal-of}
 use Rattle.auction.specs.declared.Refusal.{Refusal}
 use Rattle.auction.specs.declared.Refusal.the-variants.{NoCommand, NoOperands, Stranger, NotNow, Missing, OutOfRange, NotOwn, NoPlace, NoTry, Sheet}
 use Rattle.block.specs.declared.phases.Phase.{Phase}
@@ -139,3 +141,12 @@ Allowed-next p c (Err NotOwn) = ⊥
 Allowed-next p c (Err NoPlace) = ⊥
 Allowed-next p c (Err NoTry) = ⊥
 Allowed-next p c (Err (Sheet _)) = ⊥
+
+-- a fault of a network's addition, told as a refusal
+abbrev pub told : {X : Type 0} → Result X Fault → Result X Refusal
+told (Ok x) = Ok x
+told (Err fault) = Err (refusal-of fault)
+
+-- an answer is the telling of one with this property
+abbrev pub Tells : {X : Type 0} → Result X Refusal → (Result X Fault → Type 0) → Type 0
+Tells {X} r P = (f : Result X Fault) × P f × (r ≡ told f)

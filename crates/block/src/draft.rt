@@ -6,12 +6,16 @@ ghost use Rattle.auction.specs.Refusals.{Always, Answered};
 ghost use Rattle.network.specs.Bounds.{Of-zones, Numbers-in-range};
 ghost use Rattle.network.specs.Rows.{line-of};
 ghost use Rattle.table.specs.Tables.{Zones-exist};
-ghost use Rattle.block.specs.Drafts.{Is-tree, Is-table, Linked-on, Rowed-on, phase-of};
+ghost use Rattle.block.specs.Drafts.{Is-tree, Is-table, Linked-on, Rowed-on, Grown, phase-of};
 use crate::phases::Phase;
+use crate::phases::allow;
 use crate::phases::to_come;
 use auction::Fault;
+use auction::Refusal;
+use auction::RefusalFromFault;
 use network::MOST_ZONES;
 use network::Network;
+use stream::Command;
 use table::Table;
 use tree::Tree;
 use tree::TreeNetwork;
@@ -87,6 +91,39 @@ impl Draft {
                 Ok(Draft::Tabled { table })
             }
             _ => Err(Fault::Missing),
+        }
+    }
+
+    /// The ground after one more command of the block; a command that is for the layers or for the box is none of the ground's.
+    pub fn grow(&self, command: &Command) -> Result<Draft, Refusal>
+        ensures { λ r. ⌜ Grown (now (self .entry)) (now (command .entry)) r ⌝ }
+    {
+        let _next = allow(self.phase(), command)?;
+        match *command {
+            Command::Tree { zones } => {
+                let draft = Draft::plant(zones)?;
+                Ok(draft)
+            }
+            Command::Table { zones } => {
+                let draft = Draft::lay_out(zones)?;
+                Ok(draft)
+            }
+            Command::Link {
+                parent,
+                to_parent,
+                to_child,
+            } => {
+                let draft = self.link(parent, to_parent, to_child)?;
+                Ok(draft)
+            }
+            Command::Row {
+                limit,
+                sensitivities,
+            } => {
+                let draft = self.add(limit, sensitivities)?;
+                Ok(draft)
+            }
+            _ => Err(Refusal::NotNow),
         }
     }
 }
