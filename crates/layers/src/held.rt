@@ -1,10 +1,10 @@
 //! A network of which some capacity is held back.
 
-ghost use Prim.Native.Nat.{_-_, _≤_, _<_};
+ghost use Prim.Native.Nat.{ℕ, _-_, _≤_, _<_};
 ghost use mathlib.Core.Path.{_≡_};
 ghost use lib.ListN.{getD, set, replicate};
 ghost use denote.Ref.{now};
-ghost use Rattle.auction.specs.Grids.{line-count};
+ghost use Rattle.auction.specs.Grids.{line-count, limitAt, sensitivityAt};
 ghost use Rattle.network.specs.Bounds.{most-lines, most-kWh};
 ghost use Rattle.network.specs.Faults.{Always, Answered};
 ghost use Rattle.layers.specs.Lowered.{lowered-grid, Holds, Holds-nothing};
@@ -62,6 +62,16 @@ impl<N: Network> HeldBack<N> {
         HeldBack { below, amounts }
     }
 
+    /// The network below, of which only the limits are lowered.
+    pub fn below(&self) -> &N
+        ensures below { λ r. ⌜ now r ≡ now (self .entry) .below ⌝ }
+        ensures lines { λ r. ⌜ line-count (lowered-grid (N·Network .grid (now (self .entry) .below)) (now (self .entry) .amounts .kwh)) ≡ line-count (N·Network .grid (now r)) ⌝ }
+        ensures limits { λ r. ⌜ ((l : ℕ) → limitAt (lowered-grid (N·Network .grid (now (self .entry) .below)) (now (self .entry) .amounts .kwh)) l ≡ limitAt (N·Network .grid (now r)) l - getD (now (self .entry) .amounts .kwh) l 0) ⌝ }
+        ensures sensitivities { λ r. ⌜ ((l z : ℕ) → sensitivityAt (lowered-grid (N·Network .grid (now (self .entry) .below)) (now (self .entry) .amounts .kwh)) l z ≡ sensitivityAt (N·Network .grid (now r)) l z) ⌝ }
+    {
+        &self.below
+    }
+
     /// Holds so much back of a line from now on: refused where there is no such line, else where the amount is out of range.
     pub fn hold_back(&mut self, line: usize, kwh: u32) -> Result<(), Fault>
         ensures { λ r. ⌜ Answered r (line < line-count (N·Network .grid (now (self .entry) .below))) (kwh ≤ most-kWh) Always (λ _. (now (self .exit) .below ≡ now (self .entry) .below) × Holds (N·Network .grid (now (self .entry) .below)) (lowered-grid (N·Network .grid (now (self .entry) .below)) (now (self .entry) .amounts .kwh)) (lowered-grid (N·Network .grid (now (self .exit) .below)) (now (self .exit) .amounts .kwh)) line kwh) (now (self .exit) ≡ now (self .entry)) ⌝ }
@@ -72,8 +82,16 @@ impl<N: Network> HeldBack<N> {
         if kwh > MOST_KWH {
             return Err(Fault::OutOfRange);
         }
-        self.amounts.hold(line, kwh);
+        self.hold(line, kwh);
         Ok(())
+    }
+
+    fn hold(&mut self, line: usize, kwh: u32)
+        requires { ⌜ line < most-lines ⌝ }
+        ensures below { λ _. ⌜ now (self .exit) .below ≡ now (self .entry) .below ⌝ }
+        ensures holds { λ _. ⌜ Holds (N·Network .grid (now (self .entry) .below)) (lowered-grid (N·Network .grid (now (self .entry) .below)) (now (self .entry) .amounts .kwh)) (lowered-grid (N·Network .grid (now (self .exit) .below)) (now (self .exit) .amounts .kwh)) line kwh ⌝ }
+    {
+        self.amounts.hold(line, kwh);
     }
 }
 
@@ -81,19 +99,19 @@ pub impl<N: Network> Network for HeldBack<N> as HeldBackNetwork {
     ghost grid = { λ h. lowered-grid (N·Network .grid (h .below)) (h .amounts .kwh) };
 
     fn zones(&self) -> usize {
-        self.below.zones()
+        self.below().zones()
     }
 
     fn lines(&self) -> usize {
-        self.below.lines()
+        self.below().lines()
     }
 
     fn sensitivity(&self, line: usize, zone: usize) -> i16 {
-        self.below.sensitivity(line, zone)
+        self.below().sensitivity(line, zone)
     }
 
     fn limit(&self, line: usize) -> u32 {
-        let limit = self.below.limit(line);
+        let limit = self.below().limit(line);
         self.amounts.lower(line, limit)
     }
 }
