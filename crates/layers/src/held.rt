@@ -1,11 +1,11 @@
 //! A network of which some capacity is held back.
 
-ghost use Prim.Native.Nat.{_-_, _≤_, _<_};
+ghost use Prim.Native.Nat.{ℕ, _-_, _≤_, _<_};
 ghost use mathlib.Core.Path.{_≡_};
 ghost use mathlib.Core.List.{[], _∷_, _++_};
 ghost use lib.ListN.{getD, set, replicate};
 ghost use denote.Ref.{now};
-ghost use Rattle.auction.specs.Grids.{line-count};
+ghost use Rattle.auction.specs.Grids.{line-count, limitAt, sensitivityAt};
 ghost use Rattle.network.specs.Bounds.{most-lines, most-kWh, Of-zones, Numbers-in-range};
 ghost use Rattle.network.specs.Rows.{line-of, lines-of};
 ghost use Rattle.layers.specs.Watched.{watched-grid, Place-left};
@@ -61,10 +61,21 @@ impl<N: Network> HeldBack<N> {
     /// Holds nothing back yet.
     pub fn new(below: N) -> HeldBack<N>
         ensures kept { λ r. ⌜ r .below ≡ below ⌝ }
+        ensures zeros { λ r. ⌜ r .amounts .kwh ≡ replicate most-lines 0 ⌝ }
         ensures nothing { λ r. ⌜ Holds-nothing (N·Network .grid below) (lowered-grid (N·Network .grid (r .below)) (r .amounts .kwh)) ⌝ }
     {
         let amounts = Amounts::none();
         HeldBack { below, amounts }
+    }
+
+    /// The network below, of which only the limits are lowered.
+    pub fn below(&self) -> &N
+        ensures below { λ r. ⌜ now r ≡ now (self .entry) .below ⌝ }
+        ensures lines { λ r. ⌜ line-count (lowered-grid (N·Network .grid (now (self .entry) .below)) (now (self .entry) .amounts .kwh)) ≡ line-count (N·Network .grid (now r)) ⌝ }
+        ensures limits { λ r. ⌜ ((l : ℕ) → limitAt (lowered-grid (N·Network .grid (now (self .entry) .below)) (now (self .entry) .amounts .kwh)) l ≡ limitAt (N·Network .grid (now r)) l - getD (now (self .entry) .amounts .kwh) l 0) ⌝ }
+        ensures sensitivities { λ r. ⌜ ((l z : ℕ) → sensitivityAt (lowered-grid (N·Network .grid (now (self .entry) .below)) (now (self .entry) .amounts .kwh)) l z ≡ sensitivityAt (N·Network .grid (now r)) l z) ⌝ }
+    {
+        &self.below
     }
 
     /// Holds so much back of a line from now on: refused where there is no such line, else where the amount is out of range.
@@ -77,8 +88,16 @@ impl<N: Network> HeldBack<N> {
         if kwh > MOST_KWH {
             return Err(Fault::OutOfRange);
         }
-        self.amounts.hold(line, kwh);
+        self.hold(line, kwh);
         Ok(())
+    }
+
+    fn hold(&mut self, line: usize, kwh: u32)
+        requires { ⌜ line < most-lines ⌝ }
+        ensures below { λ _. ⌜ now (self .exit) .below ≡ now (self .entry) .below ⌝ }
+        ensures holds { λ _. ⌜ Holds (N·Network .grid (now (self .entry) .below)) (lowered-grid (N·Network .grid (now (self .entry) .below)) (now (self .entry) .amounts .kwh)) (lowered-grid (N·Network .grid (now (self .exit) .below)) (now (self .exit) .amounts .kwh)) line kwh ⌝ }
+    {
+        self.amounts.hold(line, kwh);
     }
 }
 
@@ -96,19 +115,19 @@ pub impl<N: Network> Network for HeldBack<N> as HeldBackNetwork {
     ghost grid = { λ h. lowered-grid (N·Network .grid (h .below)) (h .amounts .kwh) };
 
     fn zones(&self) -> usize {
-        self.below.zones()
+        self.below().zones()
     }
 
     fn lines(&self) -> usize {
-        self.below.lines()
+        self.below().lines()
     }
 
     fn sensitivity(&self, line: usize, zone: usize) -> i16 {
-        self.below.sensitivity(line, zone)
+        self.below().sensitivity(line, zone)
     }
 
     fn limit(&self, line: usize) -> u32 {
-        let limit = self.below.limit(line);
+        let limit = self.below().limit(line);
         self.amounts.lower(line, limit)
     }
 }

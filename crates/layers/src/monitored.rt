@@ -1,12 +1,14 @@
 //! A network with further lines that are watched.
 
+ghost use Prim.Native.Nat.{_+_, min};
 ghost use mathlib.Core.Path.{_≡_};
 ghost use mathlib.Core.List.{[], _∷_, _++_};
-ghost use lib.ListN.{getD};
+ghost use lib.ListN.{length, getD};
 ghost use denote.Ref.{now};
 ghost use Rattle.std.specs.Options.{Cases as BySome};
-ghost use Rattle.auction.specs.Grids.{no-line};
-ghost use Rattle.network.specs.Bounds.{Of-zones, Numbers-in-range};
+ghost use Rattle.std.specs.Orderings.{Decides, When};
+ghost use Rattle.auction.specs.Grids.{no-line, line-count};
+ghost use Rattle.network.specs.Bounds.{most-lines, Of-zones, Numbers-in-range};
 ghost use Rattle.auction.specs.Refusals.{Answered};
 ghost use Rattle.network.specs.Rows.{row-line, line-of, lines-in, Same-line};
 ghost use Rattle.layers.specs.Watched.{watched-grid, Place-left};
@@ -42,13 +44,33 @@ impl<N: Network> Monitored<N> {
         ensures { λ r. ⌜ Answered r (Of-zones (N·Network .grid (now (self .entry) .below) .zones) sensitivities) (Numbers-in-range limit sensitivities) (Place-left (N·Network .grid (now (self .entry) .below)) (lines-in (now (self .entry) .watched))) (λ _. (now (self .exit) .below ≡ now (self .entry) .below) × (watched-grid (N·Network .grid (now (self .exit) .below)) (lines-in (now (self .exit) .watched)) .lines ≡ watched-grid (N·Network .grid (now (self .entry) .below)) (lines-in (now (self .entry) .watched)) .lines ++ line-of limit sensitivities ∷ [])) ((now (self .exit) .below ≡ now (self .entry) .below) × (now (self .exit) .watched ≡ now (self .entry) .watched)) ⌝ }
     {
         let row = Row::new(self.below.zones(), limit, sensitivities)?;
-        if self.lines() >= MOST_LINES {
-            return Err(Fault::NoPlace);
-        }
-        if !self.watched.push(row) {
+        if !self.append(row) {
             return Err(Fault::NoPlace);
         }
         Ok(())
+    }
+
+    /// Adds a row after the others, and says whether there was a place for it.
+    fn append(&mut self, row: Row) -> bool
+        ensures place { λ r. ⌜ Decides r (Place-left (N·Network .grid (now (self .entry) .below)) (lines-in (now (self .entry) .watched))) ⌝ }
+        ensures below { λ _. ⌜ now (self .exit) .below ≡ now (self .entry) .below ⌝ }
+        ensures lines { λ r. ⌜ When r (watched-grid (N·Network .grid (now (self .exit) .below)) (lines-in (now (self .exit) .watched)) .lines ≡ watched-grid (N·Network .grid (now (self .entry) .below)) (lines-in (now (self .entry) .watched)) .lines ++ row-line row ∷ []) (now (self .exit) .watched ≡ now (self .entry) .watched) ⌝ }
+    {
+        if self.lines() >= MOST_LINES {
+            return false;
+        }
+        if !self.watched.push(row) {
+            return false;
+        }
+        true
+    }
+
+    /// The network below, whose lines come first.
+    pub fn below(&self) -> &N
+        ensures below { λ r. ⌜ now r ≡ now (self .entry) .below ⌝ }
+        ensures lines { λ r. ⌜ line-count (watched-grid (N·Network .grid (now (self .entry) .below)) (lines-in (now (self .entry) .watched))) ≡ min most-lines (line-count (N·Network .grid (now r)) + length (lines-in (now (self .entry) .watched))) ⌝ }
+    {
+        &self.below
     }
 
     /// The row of a line that is watched here, blank where there is none, and nothing for a line below.
@@ -74,7 +96,7 @@ pub impl<N: Network> Network for Monitored<N> as MonitoredNetwork {
     }
 
     fn lines(&self) -> usize {
-        let lines = self.below.lines() + self.watched.len();
+        let lines = self.below().lines() + self.watched.len();
         if lines > MOST_LINES {
             MOST_LINES
         } else {

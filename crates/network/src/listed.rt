@@ -4,6 +4,7 @@ ghost use mathlib.Core.Path.{_≡_};
 ghost use mathlib.Core.List.{[], _∷_, _++_};
 ghost use lib.Dec.{ltb};
 ghost use lib.ListN.{length, getD};
+ghost use Rattle.std.specs.Options.{Cases as BySome};
 ghost use Rattle.std.specs.Orderings.{When};
 ghost use Rattle.auction.specs.Grids.{no-line};
 ghost use Rattle.network.specs.Rows.{row-line, lines-in, Same-line};
@@ -31,10 +32,19 @@ impl<const N: usize> RowList<N> {
     pub fn at(&self, index: usize) -> Row
         ensures { λ r. ⌜ Same-line (row-line r) (getD (lines-in (now (self .entry))) index no-line) ⌝ }
     {
-        if index >= self.count {
-            return Row::blank();
+        match self.get(index) {
+            Some(row) => row,
+            None => Row::blank(),
         }
-        self.rows[index]
+    }
+
+    fn get(&self, index: usize) -> Option<Row>
+        ensures { λ r. ⌜ BySome r (getD (lines-in (now (self .entry))) index no-line ≡ no-line) (λ row. Same-line (row-line row) (getD (lines-in (now (self .entry))) index no-line)) ⌝ }
+    {
+        if index >= self.count {
+            return None;
+        }
+        Some(self.rows[index])
     }
 
     /// Adds a row after the others, and says whether there was a place for it.

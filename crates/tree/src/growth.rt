@@ -56,8 +56,8 @@ impl Tree {
         Ok(())
     }
 
-    /// The number that the next zone gets.
-    fn next_zone(&self) -> usize
+    /// The number that the next zone gets: how many there are.
+    pub(crate) fn next_zone(&self) -> usize
         ensures next { λ r. ⌜ r ≡ zone-count (links-of (now (self .entry))) ⌝ ∗ ⌜ r ≡ now (self .entry) .count + 1 ⌝ }
         ensures shaped { λ _. ⌜ Tree-shaped (links-of (now (self .entry))) (tree-grid (links-of (now (self .entry)))) ⌝ }
     {

@@ -70,11 +70,11 @@ pub impl Network for Tree as TreeNetwork {
     ghost grid = { λ t. tree-grid (links-of t) };
 
     fn zones(&self) -> usize {
-        self.count + 1
+        self.next_zone()
     }
 
     fn lines(&self) -> usize {
-        2 * self.count
+        2 * (self.next_zone() - 1)
     }
 
     fn sensitivity(&self, line: usize, zone: usize) -> i16 {

@@ -11,5 +11,6 @@ returns g c =
     let below = g .N·Network .grid (c .args .below) in
     record {
       kept = refl;
+      zeros = c .none-amounts .ensures;
       nothing = subst (λ (amounts : List ℕ). Holds-nothing below (lowered-grid below amounts)) (sym (c .none-amounts .ensures)) (holds-nothing below most-lines);
     }

@@ -1,16 +1,11 @@
-use mathlib.Core.Path.{refl, sym, ap, _∙_}
+use mathlib.Core.Path.{sym, ap}
 use native.Mathlib.Omega.{arith}
 use Rattle.auction.specs.Grids.{Line}
 use Rattle.network.proofs.Lines.{line-read, line-past}
-use Rattle.network.proofs.list.RowList.at.Needs as need
+use Rattle.network.proofs.list.RowList.get.Needs as need
 
 pub returns-then-index-self : need.returns-then-index-self
-returns-then-index-self g c =
-    let list = c .args .self .now in
-    let past = line-past (list .count) (list .rows) (c .args .index) (omega arith) (omega arith) in (
-      c .blank .ensures .0 ∙ sym (ap (λ (line : Line). line .limit) past),
-      λ z. c .blank .ensures .1 z ∙ sym (ap (λ (line : Line). line .sensitivity z) past),
-    )
+returns-then-index-self g c = let list = c .args .self .now in line-past (list .count) (list .rows) (c .args .index) (omega arith) (omega arith)
 
 pub returns : need.returns
 returns g c =
