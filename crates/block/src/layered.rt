@@ -3,6 +3,7 @@
 ghost use mathlib.Core.Path.{_≡_};
 ghost use lib.ListN.{replicate};
 ghost use mathlib.Core.List.{[]};
+ghost use Rattle.network.specs.Bounds.{most-lines};
 ghost use Rattle.network.specs.Rows.{lines-of};
 ghost use Rattle.block.specs.Layerings.{Laid, stage-phase};
 ghost use Rattle.block.specs.declared.layered.Stage.the-variants.{Bare};
@@ -51,6 +52,7 @@ impl<N: Network> Layered<N> {
         ensures bare { λ r. ⌜ r .stage ≡ Bare ⌝ }
         ensures ground { λ r. ⌜ r .network .below .below ≡ ground ⌝ }
         ensures unwatched { λ r. ⌜ lines-of (r .network .below .watched .count) (r .network .below .watched .rows) ≡ [] ⌝ }
+        ensures unheld { λ r. ⌜ r .network .amounts .kwh ≡ replicate most-lines 0 ⌝ }
     {
         Layered {
             stage: Stage::Bare,
