@@ -1,5 +1,8 @@
 //! Readable text for streams, and streams for readable text.
 
+mod reading;
+mod scanning;
+
 ghost use mathlib.Core.Path.{_≡_};
 ghost use mathlib.Core.List.{_++_};
 ghost use lib.Chars.{codes};
@@ -13,6 +16,7 @@ use std::alloc::AllocError;
 use std::alloc::Global;
 use stream::ReadFault;
 use stream::Reader;
+pub use reading::TextFault;
 use wording::command_line;
 
 fn unknown_byte_line(heap: Global, offset: usize) -> Result<String, AllocError>

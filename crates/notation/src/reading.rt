@@ -1,0 +1,81 @@
+//! From readable text to the bytes of a stream.
+
+ghost use mathlib.Core.Path.{_≡_};
+ghost use Prim.Native.Nat.{_≤_};
+ghost use Rattle.std.specs.Of.Vec.{vec-items};
+ghost use Rattle.std.specs.Vec.{made};
+ghost use Rattle.notation.specs.Scanning.{Added, Commands};
+use crate::scanning::Stop;
+use crate::scanning::find_from;
+use crate::scanning::number;
+use encoding::encode;
+use parsing::Wrong;
+use parsing::command;
+use std::alloc::AllocError;
+use std::alloc::Global;
+use std::alloc::Refused;
+
+/// Why a text gave no stream.
+#[derive(Clone, Copy)]
+pub enum TextFault {
+    /// There was no memory.
+    NoMemory,
+    /// A command is wrong; lines are counted from 1.
+    Wrong { line: u32, wrong: Wrong },
+}
+
+/// Why a piece of text gave no command.
+#[derive(Clone, Copy)]
+enum Unread {
+    NoMemory,
+    Because(Wrong),
+}
+
+impl From<AllocError> for Unread as AllocUnread {
+    fn from(_error: AllocError) -> Unread {
+        Unread::NoMemory
+    }
+}
+
+impl From<Refused<i64>> for Unread as RefusedUnread {
+    fn from(_error: Refused<i64>) -> Unread {
+        Unread::NoMemory
+    }
+}
+
+impl From<Wrong> for Unread as WrongUnread {
+    fn from(wrong: Wrong) -> Unread {
+        Unread::Because(wrong)
+    }
+}
+
+/// The numbers that the words from a place on write.
+fn numbers(heap: Global, piece: &[u8], from: usize) -> Result<Vec<i64>, Unread> {
+    let mut found = Vec::new(heap);
+    let mut at = find_from(piece, from, Stop::Word);
+    'words: while at < piece.len() {
+        let end = find_from(piece, at, Stop::Blank);
+        found.push(number(&piece[at..end])?)?;
+        at = find_from(piece, end + 1, Stop::Word);
+    }
+    Ok(found)
+}
+
+/// Adds the command that a piece of text writes, if it writes one.
+fn add_piece(heap: Global, out: &mut Vec<u8>, piece: &[u8]) -> Result<(), Unread>
+    ensures { λ r. ⌜ made r (λ _. Added (vec-items (now (out .entry))) (vec-items (now (out .exit)))) ⌝ }
+{
+    let start = find_from(piece, 0, Stop::Word);
+    if start >= piece.len() {
+        return Ok(());
+    }
+    let end = find_from(piece, start, Stop::Blank);
+    if end != start + 1 {
+        return Err(Unread::Because(Wrong::NoCommand));
+    }
+    let operands = numbers(heap, piece, end)?;
+    let meant = command(piece[start], operands.as_slice())?;
+    let bytes = encode(heap, &meant)?;
+    out.extend_from_slice(bytes.as_slice())?;
+    Ok(())
+}
