@@ -13,6 +13,7 @@ use Rattle.stream.specs.Faults.{Faulty}
 use Rattle.stream.proofs.Rows.{nothing-after}
 use Rattle.stream.proofs.Standing.{longer}
 use Rattle.wording.specs.Texts.{text-of}
+use Rattle.notation.specs.Scanning.{Added, Commands}
 use Rattle.notation.specs.Showing.{spellings, texts, fault-text, Shown}
 
 pub record Sofar (bytes text : List ℕ) (at : ℕ) : Type 0 where
@@ -48,3 +49,8 @@ all-read bytes text at so end = record { commands = so .commands; at = at; read 
 pub faulted : (bytes text more : List ℕ) (at : ℕ) (fault : ReadFault) → Sofar bytes text at → Faulty bytes at fault → more ≡ text ++ fault-text fault → Shown bytes more
 faulted bytes text more at fault so f e =
     record { commands = so .commands; at = at; read = so .read; written = inr (fault, f, e ∙ ap (λ l. l ++ fault-text fault) (so .written)) }
+
+-- one more command, or none, after commands
+pub added : (was is : List ℕ) → Commands was → Added was is → Commands is
+added was is (cs, e) (inl same) = (cs, same ∙ e)
+added was is (cs, e) (inr (c, letter, numbers, means, more)) = (cs ++ (c ∷ []), more ∙ ap (λ l. l ++ spelled c) e ∙ sym (spellings-push cs c))

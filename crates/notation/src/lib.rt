@@ -17,6 +17,7 @@ use std::alloc::Global;
 use stream::ReadFault;
 use stream::Reader;
 pub use reading::TextFault;
+pub use reading::to_bytes;
 use wording::command_line;
 
 fn unknown_byte_line(heap: Global, offset: usize) -> Result<String, AllocError>

@@ -1,7 +1,8 @@
 //! From readable text to the bytes of a stream.
 
 ghost use mathlib.Core.Path.{_≡_};
-ghost use Prim.Native.Nat.{_≤_};
+ghost use Prim.Native.Nat.{_+_, _≤_, _<_};
+ghost use lib.ListN.{length};
 ghost use Rattle.std.specs.Of.Vec.{vec-items};
 ghost use Rattle.std.specs.Vec.{made};
 ghost use Rattle.notation.specs.Scanning.{Added, Commands};
@@ -78,4 +79,43 @@ fn add_piece(heap: Global, out: &mut Vec<u8>, piece: &[u8]) -> Result<(), Unread
     let bytes = encode(heap, &meant)?;
     out.extend_from_slice(bytes.as_slice())?;
     Ok(())
+}
+
+/// The bytes of the commands that a text writes.
+pub fn to_bytes(heap: Global, text: &[u8]) -> Result<Vec<u8>, TextFault>
+    ensures { λ r. ⌜ made r (λ v. Commands (vec-items v)) ⌝ }
+{
+    let mut bytes = Vec::new(heap);
+    let mut line: u32 = 1;
+    let mut at = 0;
+    'pieces: while at < text.len() {
+        let end = find_from(text, at, Stop::CommandEnd);
+        match add_piece(heap, &mut bytes, &text[at..end]) {
+            Ok(()) => {}
+            Err(Unread::NoMemory) => return Err(TextFault::NoMemory),
+            Err(Unread::Because(wrong)) => return Err(TextFault::Wrong { line, wrong }),
+        }
+        let next = after_piece(text, end);
+        if ends_line(text, next - 1) {
+            line = line.saturating_add(1);
+        }
+        at = next;
+    }
+    Ok(bytes)
+}
+
+/// Where the text goes on after a piece that ends at a place: after a comment, if one begins there.
+fn after_piece(text: &[u8], end: usize) -> usize
+    requires { ⌜ end ≤ length (now text) ⌝ }
+    ensures { λ r. ⌜ end < r ⌝ ∗ ⌜ r ≤ length (now (text .entry)) + 1 ⌝ }
+{
+    if end < text.len() && text[end] == b'#' {
+        return find_from(text, end + 1, Stop::LineEnd) + 1;
+    }
+    end + 1
+}
+
+/// Whether the line ends at a place.
+fn ends_line(text: &[u8], at: usize) -> bool {
+    at < text.len() && text[at] == b'\n'
 }
