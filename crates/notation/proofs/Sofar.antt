@@ -37,10 +37,10 @@ texts-push (x ∷ cs) c = ap (λ l. text-of x ++ l) (texts-push cs c) ∙ sym (a
 pub one-more : (bytes text more : List ℕ) (at letter next : ℕ) (operands : List ℕ) (c : Command) → Sofar bytes text at → Stands bytes at letter operands next → spelled c ≡ letter ∷ operands → more ≡ text ++ text-of c → Sofar bytes more next
 one-more bytes text more at letter next operands c so s e w =
     record {
-        commands = so .commands ++ (c ∷ []);
-        read = spellings-push (so .commands) c ∙ ap (λ l. l ++ spelled c) (so .read) ∙ ap (λ l. take at bytes ++ l) e ∙ sym (longer bytes at letter operands next s);
-        written = w ∙ ap (λ l. l ++ text-of c) (so .written) ∙ sym (texts-push (so .commands) c);
-        within = s .within
+      commands = so .commands ++ (c ∷ []);
+      read = spellings-push (so .commands) c ∙ ap (λ l. l ++ spelled c) (so .read) ∙ ap (λ l. take at bytes ++ l) e ∙ sym (longer bytes at letter operands next s);
+      written = w ∙ ap (λ l. l ++ text-of c) (so .written) ∙ sym (texts-push (so .commands) c);
+      within = s .within;
     }
 
 pub all-read : (bytes text : List ℕ) (at : ℕ) → Sofar bytes text at → length bytes ≤ at → Shown bytes text

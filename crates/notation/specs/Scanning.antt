@@ -4,11 +4,14 @@ use mathlib.Core.Path.{_≡_}
 use mathlib.Core.Bool.{Bool, true, false, not, _||_}
 use mathlib.Core.Logic.{_⊎_}
 use mathlib.Core.List.{List, _++_}
+use lib.Chars.{codes}
 use lib.Dec.{eqb}
 use lib.IntN.{ℤ}
 use lib.ListN.{length, getD}
 use Rattle.stream.specs.declared.Command.{Command}
 use Rattle.stream.specs.Spelling.{spelled}
+use Rattle.parsing.specs.declared.Wrong.{Wrong}
+use Rattle.parsing.specs.declared.Wrong.the-variants.{NoCommand, NoNumber, TooFew, TooMany, DoesNotFit}
 use Rattle.parsing.specs.Numbers.{Means}
 use Rattle.notation.specs.declared.scanning.Stop.{Stop}
 use Rattle.notation.specs.declared.scanning.Stop.the-variants.{Blank, Word, CommandEnd, LineEnd}
@@ -45,3 +48,11 @@ Added was is = (is ≡ was) ⊎ ((command : Command) × (letter : ℕ) × (numbe
 -- bytes that are one command after another
 abbrev pub Commands : List ℕ → Type 0
 Commands bytes = (commands : List Command) × (bytes ≡ spellings commands)
+
+-- what is wrong with a command as it is written down
+abbrev pub in-words : Wrong → List ℕ
+in-words NoCommand = codes "no command has this name"
+in-words NoNumber = codes "an operand is no number"
+in-words TooFew = codes "operands are missing"
+in-words TooMany = codes "there are too many operands"
+in-words DoesNotFit = codes "an operand does not fit its width"

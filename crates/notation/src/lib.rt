@@ -12,12 +12,13 @@ ghost use Rattle.std.specs.Vec.{made};
 ghost use Rattle.std.specs.Written.{decimal};
 ghost use Rattle.notation.specs.Showing.{fault-text, Shown};
 use decoding::decode;
+pub use reading::TextFault;
+pub use reading::reason;
+pub use reading::to_bytes;
 use std::alloc::AllocError;
 use std::alloc::Global;
 use stream::ReadFault;
 use stream::Reader;
-pub use reading::TextFault;
-pub use reading::to_bytes;
 use wording::command_line;
 
 fn unknown_byte_line(heap: Global, offset: usize) -> Result<String, AllocError>

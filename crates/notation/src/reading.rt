@@ -5,7 +5,7 @@ ghost use Prim.Native.Nat.{_+_, _≤_, _<_};
 ghost use lib.ListN.{length};
 ghost use Rattle.std.specs.Of.Vec.{vec-items};
 ghost use Rattle.std.specs.Vec.{made};
-ghost use Rattle.notation.specs.Scanning.{Added, Commands};
+ghost use Rattle.notation.specs.Scanning.{Added, Commands, in-words};
 use crate::scanning::Stop;
 use crate::scanning::find_from;
 use crate::scanning::number;
@@ -23,6 +23,19 @@ pub enum TextFault {
     NoMemory,
     /// A command is wrong; lines are counted from 1.
     Wrong { line: u32, wrong: Wrong },
+}
+
+/// In words, what is wrong with a command as it is written down.
+pub fn reason(wrong: Wrong) -> &'static str
+    ensures { λ r. ⌜ now r ≡ in-words wrong ⌝ }
+{
+    match wrong {
+        Wrong::NoCommand => "no command has this name",
+        Wrong::NoNumber => "an operand is no number",
+        Wrong::TooFew => "operands are missing",
+        Wrong::TooMany => "there are too many operands",
+        Wrong::DoesNotFit => "an operand does not fit its width",
+    }
 }
 
 /// Why a piece of text gave no command.

@@ -19,6 +19,7 @@ items-again-in-Some-decode c =
     let spells : spelled (c .in-Some-decode .command) ≡ c .in-Some .item .letter ∷ c .in-Some .item .operands .now = search needs in
     let longer : more ≡ text ++ text-of (c .in-Some-decode .command) = search needs in
     let kept : c .next .last .self .bytes .now ≡ bytes = search needs in
-    let P : List ℕ → Type 0 = λ b. Sofar b more next in
-    (kept ∙ c .items .inv .0,
-    subst P (sym kept) (one-more bytes text more (c .items .reader .at) (c .in-Some .item .letter) next (c .in-Some .item .operands .now) (c .in-Some-decode .command) (c .items .inv .1) stands spells longer))
+    let P : List ℕ → Type 0 = λ b. Sofar b more next in (
+      kept ∙ c .items .inv .0,
+      subst P (sym kept) (one-more bytes text more (c .items .reader .at) (c .in-Some .item .letter) next (c .in-Some .item .operands .now) (c .in-Some-decode .command) (c .items .inv .1) stands spells longer),
+    )
