@@ -50,3 +50,44 @@ whole-row ns row limit few first long others =
     ∙ padded ns (25 - length ns) k
     ∙ entry ns row limit first others k (omega arith)
     ∙ getD-default (pos limit ∷ row) k (pos 0) d (omega arith))
+
+-- a list of so many numbers, from what stands at each place
+pub one-number : (xs : List ℤ) (a : ℤ) → length xs ≡ 1 → getD xs 0 (pos 0) ≡ a → xs ≡ a ∷ []
+one-number xs a long is-a =
+    let p0 : drop 0 xs ≡ getD xs 0 (pos 0) ∷ drop 1 xs = one xs 0 (omega arith) in
+    let end : drop 1 xs ≡ [] = none xs 1 long in
+    cc
+
+pub two-numbers : (xs : List ℤ) (a b : ℤ) → length xs ≡ 2 → getD xs 0 (pos 0) ≡ a → getD xs 1 (pos 0) ≡ b → xs ≡ a ∷ b ∷ []
+two-numbers xs a b long is-a is-b =
+    let p0 : drop 0 xs ≡ getD xs 0 (pos 0) ∷ drop 1 xs = one xs 0 (omega arith) in
+    let p1 : drop 1 xs ≡ getD xs 1 (pos 0) ∷ drop 2 xs = one xs 1 (omega arith) in
+    let end : drop 2 xs ≡ [] = none xs 2 long in
+    cc
+
+pub three-numbers : (xs : List ℤ) (a b c : ℤ) → length xs ≡ 3 → getD xs 0 (pos 0) ≡ a → getD xs 1 (pos 0) ≡ b → getD xs 2 (pos 0) ≡ c → xs ≡ a ∷ b ∷ c ∷ []
+three-numbers xs a b c long is-a is-b is-c =
+    let p0 : drop 0 xs ≡ getD xs 0 (pos 0) ∷ drop 1 xs = one xs 0 (omega arith) in
+    let p1 : drop 1 xs ≡ getD xs 1 (pos 0) ∷ drop 2 xs = one xs 1 (omega arith) in
+    let p2 : drop 2 xs ≡ getD xs 2 (pos 0) ∷ drop 3 xs = one xs 2 (omega arith) in
+    let end : drop 3 xs ≡ [] = none xs 3 long in
+    cc
+
+pub four-numbers : (xs : List ℤ) (a b c d : ℤ) → length xs ≡ 4 → getD xs 0 (pos 0) ≡ a → getD xs 1 (pos 0) ≡ b → getD xs 2 (pos 0) ≡ c → getD xs 3 (pos 0) ≡ d → xs ≡ a ∷ b ∷ c ∷ d ∷ []
+four-numbers xs a b c d long is-a is-b is-c is-d =
+    let p0 : drop 0 xs ≡ getD xs 0 (pos 0) ∷ drop 1 xs = one xs 0 (omega arith) in
+    let p1 : drop 1 xs ≡ getD xs 1 (pos 0) ∷ drop 2 xs = one xs 1 (omega arith) in
+    let p2 : drop 2 xs ≡ getD xs 2 (pos 0) ∷ drop 3 xs = one xs 2 (omega arith) in
+    let p3 : drop 3 xs ≡ getD xs 3 (pos 0) ∷ drop 4 xs = one xs 3 (omega arith) in
+    let end : drop 4 xs ≡ [] = none xs 4 long in
+    cc
+
+pub five-numbers : (xs : List ℤ) (a b c d e : ℤ) → length xs ≡ 5 → getD xs 0 (pos 0) ≡ a → getD xs 1 (pos 0) ≡ b → getD xs 2 (pos 0) ≡ c → getD xs 3 (pos 0) ≡ d → getD xs 4 (pos 0) ≡ e → xs ≡ a ∷ b ∷ c ∷ d ∷ e ∷ []
+five-numbers xs a b c d e long is-a is-b is-c is-d is-e =
+    let p0 : drop 0 xs ≡ getD xs 0 (pos 0) ∷ drop 1 xs = one xs 0 (omega arith) in
+    let p1 : drop 1 xs ≡ getD xs 1 (pos 0) ∷ drop 2 xs = one xs 1 (omega arith) in
+    let p2 : drop 2 xs ≡ getD xs 2 (pos 0) ∷ drop 3 xs = one xs 2 (omega arith) in
+    let p3 : drop 3 xs ≡ getD xs 3 (pos 0) ∷ drop 4 xs = one xs 3 (omega arith) in
+    let p4 : drop 4 xs ≡ getD xs 4 (pos 0) ∷ drop 5 xs = one xs 4 (omega arith) in
+    let end : drop 5 xs ≡ [] = none xs 5 long in
+    cc

@@ -9,7 +9,7 @@ ghost use Rattle.std.specs.Vec.{made};
 ghost use Rattle.parsing.specs.declared.widths.Wrong.the-variants.{TooFew, TooMany};
 
 /// What is wrong with a command as it is written down.
-#[derive(Clone, Copy, PartialEq, Eq, Debug)]
+#[derive(Clone, Copy)]
 pub enum Wrong {
     /// A word that should be a letter is none that names a command.
     NoCommand,

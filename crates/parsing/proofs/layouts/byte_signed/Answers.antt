@@ -1,25 +1,15 @@
-use mathlib.Core.Path.{_≡_}
-use mathlib.Core.List.{List, [], _∷_}
-use native.Mathlib.Omega.{arith}
+use mathlib.Core.Path.{_≡_, sym, _∙_}
+use borrow.Author.Needs.{needs}
 use lib.IntN.{ℤ, pos}
-use lib.ListN.{length, getD, drop}
 use mir.Syntax.{w32}
 use mir.Val.{SFits, toZ, ofZ}
-use borrow.Author.Needs.{needs}
 use Rattle.std.proofs.shelf.Signed.{toZ-ofZ}
-use Rattle.parsing.proofs.Places.{one, none}
+use Rattle.parsing.proofs.Places.{two-numbers}
 use Rattle.parsing.proofs.layouts.byte_signed.Needs as need
 
 pub returns : need.returns
 returns c =
-    let xs : List ℤ = c .args .numbers .now in
-    let long : length xs ≡ 2 = c .in-Continue-counted .ensures tt in
-    let p0 : drop 0 xs ≡ getD xs 0 (pos 0) ∷ drop 1 xs = one xs 0 (omega arith) in
-    let p1 : drop 1 xs ≡ getD xs 1 (pos 0) ∷ drop 2 xs = one xs 1 (omega arith) in
-    let end : drop 2 xs ≡ [] = none xs 2 long in
     let b : ℤ = c .in-Continue-b .b in
     let fits : SFits w32 b = search needs in
     let same : toZ w32 (ofZ w32 b) ≡ b = toZ-ofZ w32 b fits in
-    let v0 = c .in-Continue-a .ensures tt in
-    let v1 = c .in-Continue-b .ensures tt in
-    rw same (cc)
+    two-numbers (c .args .numbers .now) (pos (c .in-Continue-a .a)) (toZ w32 (ofZ w32 b)) (c .in-Continue-counted .ensures tt) (c .in-Continue-a .ensures tt) (c .in-Continue-b .ensures tt ∙ sym same)
