@@ -4,15 +4,14 @@ use mathlib.Core.Path.{_≡_}
 use mathlib.Core.Bool.{true, false}
 use mathlib.Core.List.{List, [], _∷_, _++_}
 use lib.IntN.{ℤ}
-use lib.ListN.{replicate}
 use Rattle.std.specs.declared.result.Result.{Result}
 use Rattle.std.specs.declared.result.Result.the-variants.{Ok, Err}
 use Rattle.auction.specs.declared.Refusal.{Refusal}
 use Rattle.auction.specs.declared.Refusal.the-variants.{Stranger, NotNow}
 use Rattle.auction.specs.Refusals.{Answered, Always}
 use Rattle.auction.specs.Grids.{Grid, Line, line-count}
-use Rattle.network.specs.Bounds.{most-kWh, most-lines, Of-zones, Numbers-in-range}
-use Rattle.network.specs.Rows.{line-of, lines-of}
+use Rattle.network.specs.Bounds.{most-kWh, Of-zones, Numbers-in-range}
+use Rattle.network.specs.Rows.{line-of}
 use Rattle.layers.specs.Watched.{watched-grid, Place-left}
 use Rattle.layers.specs.Lowered.{lowered-grid, Holds}
 use Rattle.stream.specs.declared.commands.Command.{Command}
@@ -20,7 +19,6 @@ use Rattle.stream.specs.declared.commands.Command.the-variants.{Monitor, HoldBa
 use Rattle.stream.specs.Spelling.{house-of}
 use Rattle.block.specs.declared.phases.Phase.{Phase}
 use Rattle.block.specs.declared.phases.Phase.the-variants as Reached
-use Rattle.block.specs.declared.layered.Layered.{Layered}
 use Rattle.block.specs.declared.layered.Stage.{Stage}
 use Rattle.block.specs.declared.layered.Stage.the-variants as Given
 use Rattle.block.specs.Phases.{Strange, Tells, allowed}
@@ -44,20 +42,3 @@ pub record Laid (ground : Grid) (c : Command) (r : Result (Unit {0}) Refusal) (s
   pub monitored : (limit : ℕ) (row : List ℤ) → c ≡ Monitor limit row → allowed (stage-phase stage) c ≡ true → Tells r (λ f. Answered f (Of-zones (ground .zones) row) (Numbers-in-range limit row) (Place-left ground watched) (λ _. (watched-grid ground watched′ .lines ≡ watched-grid ground watched .lines ++ line-of limit row ∷ []) × (held′ ≡ held) × (stage′ ≡ Given.Watched)) (Unchanged stage watched held stage′ watched′ held′))
   pub held-back : (line kwh : ℕ) → c ≡ HoldBack line kwh → allowed (stage-phase stage) c ≡ true → Tells r (λ f. Answered f (line < line-count (watched-grid ground watched)) (kwh ≤ most-kWh) Always (λ _. Holds (watched-grid ground watched) (lowered-grid (watched-grid ground watched) held) (lowered-grid (watched-grid ground watched′) held′) line kwh × (watched′ ≡ watched) × (stage′ ≡ Given.Held)) (Unchanged stage watched held stage′ watched′ held′))
   pub opened : c ≡ Open → allowed (stage-phase stage) c ≡ true → (r ≡ Ok tt) × (stage′ ≡ Given.Open) × (watched′ ≡ watched) × (held′ ≡ held)
-
--- what a first layer leaves: the layers that were laid, or none where it was refused
-abbrev pub unit-of : {N : Type 0} → Result (Layered N) Refusal → Result (Unit {0}) Refusal
-unit-of (Ok layered) = Ok tt
-unit-of (Err refusal) = Err refusal
-
-abbrev pub stage-after : {N : Type 0} → Result (Layered N) Refusal → Stage
-stage-after (Ok layered) = layered .stage
-stage-after (Err refusal) = Given.Bare
-
-abbrev pub watched-after : {N : Type 0} → Result (Layered N) Refusal → List Line
-watched-after (Ok layered) = lines-of (layered .network .below .watched .count) (layered .network .below .watched .rows)
-watched-after (Err refusal) = []
-
-abbrev pub held-after : {N : Type 0} → Result (Layered N) Refusal → List ℕ
-held-after (Ok layered) = layered .network .amounts .kwh
-held-after (Err refusal) = replicate most-lines 0
