@@ -1,7 +1,7 @@
 -- What the block's commands do to the layers over the ground of a network.
 use Prim.Native.Nat.{ℕ, _≤_, _<_}
 use mathlib.Core.Path.{_≡_}
-use mathlib.Core.Bool.{true, false}
+use mathlib.Core.Bool.{Bool, true, false}
 use mathlib.Core.List.{List, [], _∷_, _++_}
 use lib.IntN.{ℤ}
 use Rattle.std.specs.declared.result.Result.{Result}
@@ -29,6 +29,12 @@ stage-phase Given.Watched = Reached.Monitored
 stage-phase Given.Held = Reached.HeldBack
 stage-phase Given.Open = Reached.Open
 
+abbrev pub opened : Stage → Bool
+opened Given.Bare = false
+opened Given.Watched = false
+opened Given.Held = false
+opened Given.Open = true
+
 -- nothing has changed
 pub record Unchanged (stage : Stage) (watched : List Line) (held : List ℕ) (stage′ : Stage) (watched′ : List Line) (held′ : List ℕ) : Type 0 where
   pub same-stage : stage′ ≡ stage
@@ -41,4 +47,4 @@ pub record Laid (ground : Grid) (c : Command) (r : Result (Unit {0}) Refusal) (s
   pub not-now : (Strange (house-of c) → ⊥) → allowed (stage-phase stage) c ≡ false → (r ≡ Err NotNow) × Unchanged stage watched held stage′ watched′ held′
   pub monitored : (limit : ℕ) (row : List ℤ) → c ≡ Monitor limit row → allowed (stage-phase stage) c ≡ true → Tells r (λ f. Answered f (Of-zones (ground .zones) row) (Numbers-in-range limit row) (Place-left ground watched) (λ _. (watched-grid ground watched′ .lines ≡ watched-grid ground watched .lines ++ line-of limit row ∷ []) × (held′ ≡ held) × (stage′ ≡ Given.Watched)) (Unchanged stage watched held stage′ watched′ held′))
   pub held-back : (line kwh : ℕ) → c ≡ HoldBack line kwh → allowed (stage-phase stage) c ≡ true → Tells r (λ f. Answered f (line < line-count (watched-grid ground watched)) (kwh ≤ most-kWh) Always (λ _. Holds (watched-grid ground watched) (lowered-grid (watched-grid ground watched) held) (lowered-grid (watched-grid ground watched′) held′) line kwh × (watched′ ≡ watched) × (stage′ ≡ Given.Held)) (Unchanged stage watched held stage′ watched′ held′))
-  pub opened : c ≡ Open → allowed (stage-phase stage) c ≡ true → (r ≡ Ok tt) × (stage′ ≡ Given.Open) × (watched′ ≡ watched) × (held′ ≡ held)
+  pub opens : c ≡ Open → allowed (stage-phase stage) c ≡ true → (r ≡ Ok tt) × (stage′ ≡ Given.Open) × (watched′ ≡ watched) × (held′ ≡ held)

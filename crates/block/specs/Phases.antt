@@ -88,6 +88,27 @@ allowed p (Quantity _ _ _ _) = false
 allowed p (Lambda _ _) = false
 allowed p (ShadowPrice _ _ _) = false
 
+-- the commands that belong to the layers over the ground, and end it
+abbrev pub for-layers : Command → Bool
+for-layers (Tree _) = false
+for-layers (Table _) = false
+for-layers (Link _ _ _) = false
+for-layers (Row _ _) = false
+for-layers (Monitor _ _) = true
+for-layers (HoldBack _ _) = true
+for-layers Open = true
+for-layers (Offer _ _ _ _) = false
+for-layers (Bid _ _ _ _) = false
+for-layers (Transfer _ _ _ _ _) = false
+for-layers (Withdraw _ _ _) = false
+for-layers (Close _) = false
+for-layers (Try _) = false
+for-layers (Settle _) = false
+for-layers (Void _) = false
+for-layers (Quantity _ _ _ _) = false
+for-layers (Lambda _ _) = false
+for-layers (ShadowPrice _ _ _) = false
+
 -- a tree of which so many links are still to come
 abbrev pub links-to-come : ℕ → Phase
 links-to-come zero = Linked

@@ -1,14 +1,17 @@
 //! The ground of a network as the block gives it: a tree that still grows, or a table.
 
 ghost use mathlib.Core.Path.{_≡_};
+ghost use mathlib.Core.Bool.{_&&_};
 ghost use mathlib.Core.List.{[], _∷_, _++_};
 ghost use Rattle.auction.specs.Refusals.{Always, Answered};
 ghost use Rattle.network.specs.Bounds.{Of-zones, Numbers-in-range};
 ghost use Rattle.network.specs.Rows.{line-of};
 ghost use Rattle.table.specs.Tables.{Zones-exist};
+ghost use Rattle.block.specs.Phases.{allowed, for-layers};
 ghost use Rattle.block.specs.Drafts.{Is-tree, Is-table, Linked-on, Rowed-on, Grown, phase-of};
 use crate::phases::Phase;
 use crate::phases::allow;
+use crate::phases::is_allowed;
 use crate::phases::to_come;
 use auction::Fault;
 use auction::Refusal;
@@ -41,6 +44,18 @@ impl Draft {
                 to_come((zones as usize).saturating_sub(there) as u8)
             }
             Draft::Tabled { .. } => Phase::Rows,
+        }
+    }
+
+    /// Does the command end the ground: is it one of the layers', and allowed now?
+    pub fn ends_with(&self, command: &Command) -> bool
+        ensures { λ r. ⌜ r ≡ (for-layers (now (command .entry)) && allowed (phase-of (now (self .entry))) (now (command .entry))) ⌝ }
+    {
+        match *command {
+            Command::Monitor { .. } => is_allowed(self.phase(), command),
+            Command::HoldBack { .. } => is_allowed(self.phase(), command),
+            Command::Open => is_allowed(self.phase(), command),
+            _ => false,
         }
     }
 

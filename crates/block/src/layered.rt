@@ -5,7 +5,7 @@ ghost use lib.ListN.{replicate};
 ghost use mathlib.Core.List.{[]};
 ghost use Rattle.network.specs.Bounds.{most-lines};
 ghost use Rattle.network.specs.Rows.{lines-of};
-ghost use Rattle.block.specs.Layerings.{Laid, stage-phase};
+ghost use Rattle.block.specs.Layerings.{Laid, opened, stage-phase};
 ghost use Rattle.block.specs.declared.layered.Stage.the-variants.{Bare};
 use crate::phases::Phase;
 use crate::phases::allow;
@@ -57,6 +57,16 @@ impl<N: Network> Layered<N> {
         Layered {
             stage: Stage::Bare,
             network: HeldBack::new(Monitored::new(ground)),
+        }
+    }
+
+    /// Was the box opened?
+    pub fn is_open(&self) -> bool
+        ensures { λ r. ⌜ r ≡ opened (now (self .entry) .stage) ⌝ }
+    {
+        match self.stage {
+            Stage::Open => true,
+            _ => false,
         }
     }
 

@@ -61,6 +61,15 @@ fn advance(phase: Phase, command: &Command) -> Result<Phase, Refusal>
     }
 }
 
+pub(crate) fn is_allowed(phase: Phase, command: &Command) -> bool
+    ensures { λ r. ⌜ r ≡ allowed phase (now (command .entry)) ⌝ }
+{
+    match advance(phase, command) {
+        Ok(_) => true,
+        Err(_) => false,
+    }
+}
+
 /// Where the block stands after a command, if its house is one of the two and the block allows it now.
 pub fn allow(phase: Phase, command: &Command) -> Result<Phase, Refusal>
     ensures { λ r. ⌜ Allowed-next phase (now (command .entry)) r ⌝ }
