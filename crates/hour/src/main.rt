@@ -3,8 +3,6 @@
 use auction::Refusal;
 use block::Draft;
 use block::Layered;
-use block::Stage;
-use block::allow;
 use decoding::decode;
 use network::Network;
 use report::StreamFault;
@@ -19,9 +17,7 @@ use stream::Command;
 use stream::Item;
 use stream::MOST_BYTES;
 use stream::Reader;
-use table::Table;
 use table::TableNetwork;
-use tree::Tree;
 use tree::TreeNetwork;
 
 /// The next command of the stream with the item that holds it; none at the end.
@@ -48,7 +44,7 @@ fn say_refused(rt: &LibcRuntime, fault: &StreamFault) -> Result<(), AnyError> {
 }
 
 /// The commands of the layers over a tree or over a table, up to the one that opens the box.
-fn read_layers<N: Network + Drop>(
+fn read_layers<N: Network + Copy>(
     rt: &LibcRuntime,
     reader: &mut Reader,
     mut layered: Layered<N>,
@@ -70,7 +66,7 @@ fn read_layers<N: Network + Drop>(
 }
 
 /// A command of the layers, the first after the ground: where it is taken, the rest of the stream is read over them.
-fn begin_layers<N: Network + Drop>(
+fn begin_layers<N: Network + Copy>(
     rt: &LibcRuntime,
     reader: &mut Reader,
     ground: N,
@@ -108,4 +104,49 @@ fn grow(
             Ok(*draft)
         }
     }
+}
+
+/// The commands of the ground, and then those of the layers over it.
+fn read_block(rt: &LibcRuntime, reader: &mut Reader) -> Result<(), AnyError> {
+    let mut draft = Draft::Nothing;
+    for _ in 0..MOST_BYTES {
+        match next_command(reader) {
+            Err(fault) => return say_refused(rt, &fault),
+            Ok(None) => return Ok(()),
+            Ok(Some((item, command))) => {
+                if !draft.ends_with(&command) {
+                    draft = grow(rt, &draft, &item, &command)?;
+                } else if over_ground(rt, reader, &draft, &item, &command)? {
+                    return Ok(());
+                }
+            }
+        }
+    }
+    Ok(())
+}
+
+/// The layers over a tree or over a table below.
+fn over_ground(
+    rt: &LibcRuntime,
+    reader: &mut Reader,
+    draft: &Draft,
+    item: &Item,
+    command: &Command,
+) -> Result<bool, AnyError> {
+    match *draft {
+        Draft::Nothing => Ok(false),
+        Draft::Growing { tree, .. } => begin_layers(rt, reader, tree, item, command),
+        Draft::Tabled { table } => begin_layers(rt, reader, table, item, command),
+    }
+}
+
+fn run(rt: &LibcRuntime) -> Result<(), AnyError> {
+    let mut bytes = Vec::new(rt.alloc());
+    rt.stdin().take(MOST_BYTES as u64).read_to_end(&mut bytes)?;
+    let mut reader = Reader::new(bytes.as_slice());
+    read_block(rt, &mut reader)
+}
+
+fn main(rt: LibcRuntime) -> Result<(), AnyError> {
+    rt.report(run(&rt))
 }
