@@ -8,7 +8,7 @@ ghost use Rattle.auction.specs.declared.Refusal.the-variants.{Sheet, Stranger}
 ghost use Rattle.std.specs.Results.{Cases};
 
 /// The rule of the sheet that is broken first, and where.
-#[derive(Clone, Copy, PartialEq, Eq, Debug)]
+#[derive(Clone, Copy)]
 pub enum Broken {
     /// An order takes a quantity that is not possible for it, or a withdrawn one takes something.
     Quantity { list: u8, number: u16 },
@@ -55,7 +55,7 @@ impl Broken {
 }
 
 /// Why a command is refused, in the order in which the questions are put.
-#[derive(Clone, Copy, PartialEq, Eq, Debug)]
+#[derive(Clone, Copy)]
 pub enum Refusal {
     /// The byte names no command.
     NoCommand,
@@ -141,7 +141,7 @@ pub impl From<Fault> for Refusal as RefusalFromFault {
 }
 
 /// One of the two houses that share the pool.
-#[derive(Clone, Copy, PartialEq, Eq, Debug)]
+#[derive(Clone, Copy)]
 pub enum House {
     Zero,
     One,
