@@ -6,3 +6,4 @@ pub mod Filling
 pub mod Summing
 pub mod Pricing
 pub mod Casts
+pub mod Verdicts
