@@ -26,7 +26,7 @@ use Rattle.block.specs.declared.phases.Phase.{Phase}
 use Rattle.block.specs.declared.phases.Phase.the-variants.{Start, Rows}
 use Rattle.block.specs.declared.draft.Draft.{Draft}
 use Rattle.block.specs.declared.draft.Draft.the-variants.{Nothing, Growing, Tabled}
-use Rattle.block.specs.Phases.{Strange, Tells, allowed, links-to-come}
+use Rattle.block.specs.Phases.{Strange, Tells, allowed, for-layers, links-to-come}
 
 -- a tree with these links, of so many zones when it is whole
 abbrev pub Is-tree : Draft → List Link → ℕ → Type 0
@@ -65,3 +65,4 @@ pub record Grown (d : Draft) (c : Command) (r : Result Draft Refusal) : Type 0 w
   pub laid-out : (zones : ℕ) → c ≡ Word.Table zones → allowed (phase-of d) c ≡ true → Tells r (λ f. Answered f (Zones-exist zones) Always Always (λ after. Is-table after zones []) Always)
   pub linked : (parent up down : ℕ) → c ≡ Word.Link parent up down → allowed (phase-of d) c ≡ true → Tells r (Linked-on d parent up down)
   pub rowed : (limit : ℕ) (row : List ℤ) → c ≡ Word.Row limit row → allowed (phase-of d) c ≡ true → Tells r (Rowed-on d limit row)
+  pub not-the-base's : for-layers c ≡ true → allowed (phase-of d) c ≡ true → r ≡ Err NotNow

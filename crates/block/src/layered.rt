@@ -60,6 +60,13 @@ impl<N: Network> Layered<N> {
         }
     }
 
+    /// The network with its layers.
+    pub fn network(&self) -> &HeldBack<Monitored<N>>
+        ensures { λ r. ⌜ now r ≡ now (self .entry) .network ⌝ }
+    {
+        &self.network
+    }
+
     /// Was the box opened?
     pub fn is_open(&self) -> bool
         ensures { λ r. ⌜ r ≡ opened (now (self .entry) .stage) ⌝ }
