@@ -1,4 +1,4 @@
--- The ground of a network while the block gives it.
+-- The base of a network while the block gives it.
 use Prim.Native.Nat.{ℕ, _-_, _<_}
 use mathlib.Core.Path.{_≡_}
 use mathlib.Core.Bool.{true, false}
@@ -57,7 +57,7 @@ Rowed-on Nothing limit row r = r ≡ Err Missing
 Rowed-on (Growing tree zones) limit row r = r ≡ Err Missing
 Rowed-on (Tabled table) limit row r = Answered r (Of-zones (table-grid table .zones) row) (Numbers-in-range limit row) (length (table-grid table .lines) < most-lines) (λ after. Is-table after (table-grid table .zones) (table-grid table .lines ++ line-of limit row ∷ [])) Always
 
--- The answer to a command of the ground: a stranger's is refused first, then one that is not allowed now; each of the four is answered by the tree or the table.
+-- The answer to a command of the base: a stranger's is refused first, then one that is not allowed now; each of the four is answered by the tree or the table.
 pub record Grown (d : Draft) (c : Command) (r : Result Draft Refusal) : Type 0 where
   pub stranger : Strange (house-of c) → r ≡ Err Stranger
   pub not-now : (Strange (house-of c) → ⊥) → allowed (phase-of d) c ≡ false → r ≡ Err NotNow
