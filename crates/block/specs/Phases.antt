@@ -88,7 +88,7 @@ allowed p (Quantity _ _ _ _) = false
 allowed p (Lambda _ _) = false
 allowed p (ShadowPrice _ _ _) = false
 
--- the commands that belong to the layers over the ground, and end it
+-- the commands that belong to the layers over the base, and end it
 abbrev pub for-layers : Command → Bool
 for-layers (Tree _) = false
 for-layers (Table _) = false

@@ -1,4 +1,4 @@
-//! The ground of a network as the block gives it: a tree that still grows, or a table.
+//! The base of a network as the block gives it: a tree that still grows, or a table.
 
 ghost use mathlib.Core.Path.{_≡_};
 ghost use mathlib.Core.Bool.{_&&_};
@@ -47,7 +47,7 @@ impl Draft {
         }
     }
 
-    /// Does the command end the ground: is it one of the layers', and allowed now?
+    /// Does the command end the base: is it one of the layers', and allowed now?
     pub fn ends_with(&self, command: &Command) -> bool
         ensures { λ r. ⌜ r ≡ (for-layers (now (command .entry)) && allowed (phase-of (now (self .entry))) (now (command .entry))) ⌝ }
     {
@@ -109,7 +109,7 @@ impl Draft {
         }
     }
 
-    /// The ground after one more command of the block; a command that is for the layers or for the box is none of the ground's.
+    /// The base after one more command of the block; a command that is for the layers or for the box is none of the base's.
     pub fn grow(&self, command: &Command) -> Result<Draft, Refusal>
         ensures { λ r. ⌜ Grown (now (self .entry)) (now (command .entry)) r ⌝ }
     {

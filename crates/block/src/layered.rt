@@ -1,4 +1,4 @@
-//! The layers that the block lays over the ground of a network.
+//! The layers that the block lays over the base of a network.
 
 ghost use mathlib.Core.Path.{_≡_};
 ghost use lib.ListN.{replicate};
@@ -48,16 +48,23 @@ pub struct Layered<N> {
 
 impl<N: Network> Layered<N> {
     /// Both layers, with nothing in them yet.
-    pub fn over(ground: N) -> Layered<N>
+    pub fn over(base: N) -> Layered<N>
         ensures bare { λ r. ⌜ r .stage ≡ Bare ⌝ }
-        ensures ground { λ r. ⌜ r .network .below .below ≡ ground ⌝ }
+        ensures base { λ r. ⌜ r .network .below .below ≡ base ⌝ }
         ensures unwatched { λ r. ⌜ lines-of (r .network .below .watched .count) (r .network .below .watched .rows) ≡ [] ⌝ }
         ensures unheld { λ r. ⌜ r .network .amounts .kwh ≡ replicate most-lines 0 ⌝ }
     {
         Layered {
             stage: Stage::Bare,
-            network: HeldBack::new(Monitored::new(ground)),
+            network: HeldBack::new(Monitored::new(base)),
         }
+    }
+
+    /// The network with its layers.
+    pub fn network(&self) -> &HeldBack<Monitored<N>>
+        ensures { λ r. ⌜ now r ≡ now (self .entry) .network ⌝ }
+    {
+        &self.network
     }
 
     /// Was the box opened?
@@ -72,7 +79,7 @@ impl<N: Network> Layered<N> {
 
     /// One more command of the block.
     pub fn lay(&mut self, command: &Command) -> Result<(), Refusal>
-        ensures ground { λ _. ⌜ now (self .exit) .network .below .below ≡ now (self .entry) .network .below .below ⌝ }
+        ensures base { λ _. ⌜ now (self .exit) .network .below .below ≡ now (self .entry) .network .below .below ⌝ }
         ensures laid { λ r. ⌜ Laid (N·Network .grid (now (self .entry) .network .below .below)) (now (command .entry)) r (now (self .entry) .stage) (lines-of (now (self .entry) .network .below .watched .count) (now (self .entry) .network .below .watched .rows)) (now (self .entry) .network .amounts .kwh) (now (self .exit) .stage) (lines-of (now (self .exit) .network .below .watched .count) (now (self .exit) .network .below .watched .rows)) (now (self .exit) .network .amounts .kwh) ⌝ }
     {
         let _next = allow(self.stage.phase(), command)?;

@@ -11,7 +11,7 @@ use lib.IntN.{ℤ, pos, _-ℤ_, negℤ, natAbs}
 use Rattle.std.proofs.shelf.Tests.{cases-eq}
 use Rattle.auction.specs.Sums.{Σℕ}
 use Rattle.auction.specs.Orders.{Order, Sound}
-use Rattle.rows.specs.declared.terms.Terms.{Terms}
+use Rattle.rows.specs.Bounds.{In-range}
 use Rattle.kinds.specs.Kinds.{into, offer, bid, transfer}
 use Rattle.kinds.proofs.Gains.{into-here, into-elsewhere}
 
@@ -60,35 +60,35 @@ none-from-none : (x y : ℤ) → x ≡ pos 0 → y ≡ pos 0 → x -ℤ y ≡ po
 none-from-none x y p e = omega (arith, ints)
 
 -- ---- the three kinds
-pub offer-sound : (t : Terms) → Sound (offer (t .first) (t .price) (t .quantity))
-offer-sound t = record {
+pub offer-sound : (zone price quantity : ℕ) → In-range price quantity → Sound (offer zone price quantity)
+offer-sound zone price quantity t = record {
   largest-positive = t .some;
-  largest-in-range = t .modest;
-  nothing-is-worth-nothing = ap (λ x. negℤ (pos x)) (mul-zero (t .price));
-  nothing-feeds-nothing = nothing (t .first);
-  worth-in-range = λ q p. let k = at-most (t .price) q (t .cheap) in let e = neg-abs (t .price * q) in omega arith;
-  injections-in-range = λ q n p. let k = Σℕ-into n (t .first) q in omega arith;
-  none-beyond-last = λ q z h. into-elsewhere (t .first) q z (λ e. omega arith);
+  largest-in-range = t .quantity-in-range;
+  nothing-is-worth-nothing = ap (λ x. negℤ (pos x)) (mul-zero price);
+  nothing-feeds-nothing = nothing zone;
+  worth-in-range = λ q p. let k = at-most price q (t .price-in-range) in let e = neg-abs (price * q) in omega arith;
+  injections-in-range = λ q n p. let k = Σℕ-into n zone q in omega arith;
+  none-beyond-last = λ q z h. into-elsewhere zone q z (λ e. omega arith);
 }
 
-pub bid-sound : (t : Terms) → Sound (bid (t .first) (t .price) (t .quantity))
-bid-sound t = record {
+pub bid-sound : (zone price quantity : ℕ) → In-range price quantity → Sound (bid zone price quantity)
+bid-sound zone price quantity t = record {
   largest-positive = t .some;
-  largest-in-range = t .modest;
-  nothing-is-worth-nothing = ap pos (mul-zero (t .price));
-  nothing-feeds-nothing = λ z. ap negℤ (nothing (t .first) z);
-  worth-in-range = λ q p. at-most (t .price) q (t .cheap);
-  injections-in-range = λ q n p. let k = Σℕ-into n (t .first) q in let l = Σℕ-under n (λ z. natAbs (negℤ (into (t .first) q z))) (size (t .first) q) (size (t .first) q) (λ z. neg-size (into (t .first) q z)) in omega arith;
-  none-beyond-last = λ q z h. ap negℤ (into-elsewhere (t .first) q z (λ e. omega arith));
+  largest-in-range = t .quantity-in-range;
+  nothing-is-worth-nothing = ap pos (mul-zero price);
+  nothing-feeds-nothing = λ z. ap negℤ (nothing zone z);
+  worth-in-range = λ q p. at-most price q (t .price-in-range);
+  injections-in-range = λ q n p. let k = Σℕ-into n zone q in let l = Σℕ-under n (λ z. natAbs (negℤ (into zone q z))) (size zone q) (size zone q) (λ z. neg-size (into zone q z)) in omega arith;
+  none-beyond-last = λ q z h. ap negℤ (into-elsewhere zone q z (λ e. omega arith));
 }
 
-pub transfer-sound : (t : Terms) → Sound (transfer (t .first) (t .second) (t .price) (t .quantity))
-transfer-sound t = record {
+pub transfer-sound : (first second price quantity : ℕ) → In-range price quantity → Sound (transfer first second price quantity)
+transfer-sound first second price quantity t = record {
   largest-positive = t .some;
-  largest-in-range = t .modest;
-  nothing-is-worth-nothing = ap pos (mul-zero (t .price));
-  nothing-feeds-nothing = λ z. none-from-none (into (t .first) 0 z) (into (t .second) 0 z) (nothing (t .first) z) (nothing (t .second) z);
-  worth-in-range = λ q p. at-most (t .price) q (t .cheap);
-  injections-in-range = λ q n p. let k = Σℕ-into n (t .first) q in let m = Σℕ-into n (t .second) q in let l = Σℕ-under n (λ z. natAbs (into (t .first) q z -ℤ into (t .second) q z)) (size (t .first) q) (size (t .second) q) (λ z. triangle (into (t .first) q z) (into (t .second) q z)) in omega arith;
-  none-beyond-last = λ q z h. none-from-none (into (t .first) q z) (into (t .second) q z) (into-elsewhere (t .first) q z (λ e. omega arith)) (into-elsewhere (t .second) q z (λ e. omega arith));
+  largest-in-range = t .quantity-in-range;
+  nothing-is-worth-nothing = ap pos (mul-zero price);
+  nothing-feeds-nothing = λ z. none-from-none (into first 0 z) (into second 0 z) (nothing first z) (nothing second z);
+  worth-in-range = λ q p. at-most price q (t .price-in-range);
+  injections-in-range = λ q n p. let k = Σℕ-into n first q in let m = Σℕ-into n second q in let l = Σℕ-under n (λ z. natAbs (into first q z -ℤ into second q z)) (size first q) (size second q) (λ z. triangle (into first q z) (into second q z)) in omega arith;
+  none-beyond-last = λ q z h. none-from-none (into first q z) (into second q z) (into-elsewhere first q z (λ e. omega arith)) (into-elsewhere second q z (λ e. omega arith));
 }

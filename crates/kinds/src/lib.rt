@@ -10,7 +10,7 @@ pub use bid::BidKind;
 pub use linear::ZoneWish;
 pub use linear::fed;
 pub use linear::zone_price;
-pub use linear::zone_terms;
+pub use linear::zone_row;
 use listed::Listed;
 pub use offer::Offer;
 pub use offer::OfferKind;

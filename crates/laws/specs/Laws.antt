@@ -19,6 +19,6 @@ Rent-law = (g : Grid) (b : Book) (d : Dispatch) (p : Prices) → Accepted g b d 
 abbrev pub Interchange-law : Type 0
 Interchange-law = (g : Grid) (b : Book) (d other-d : Dispatch) (p other-p : Prices) → Accepted g b d p → Accepted g b other-d other-p → (welfare-of b d ≡ welfare-of b other-d) × Accepted g b d other-p × Accepted g b other-d p
 
--- a sheet has one verdict: it is accepted, or one rule at one place is broken first
+-- a sheet has at most one verdict: where a rule is broken first at a place, the sheet is not accepted, and no other rule or place is first
 abbrev pub One-verdict-law : Type 0
 One-verdict-law = (g : Grid) (b : Book) (d : Dispatch) (p : Prices) (x : Broken) → First-broken g b d p x → (Accepted g b d p → ⊥) × ((y : Broken) → First-broken g b d p y → y ≡ x)

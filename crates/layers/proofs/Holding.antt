@@ -11,23 +11,23 @@ use lib.ListN.{length, getD, set, replicate}
 use Rattle.std.proofs.shelf.Lists.{getD-past, getD-replicate, getD-set-same, getD-set-other, length-replicate}
 use Rattle.std.proofs.shelf.Tests.{cases-lt}
 use Rattle.auction.specs.Grids.{Line, Grid, no-line, line-count, limitAt, sensitivityAt}
-use Rattle.layers.specs.Lowered.{lowered, lowered-grid, Holds, Holds-nothing}
+use Rattle.layers.specs.Lowered.{lowered-lines, lowered-grid, Holds, Holds-nothing}
 
-pub lowered-count : (lines : List Line) (amounts : List ℕ) → length (lowered lines amounts) ≡ length lines
-unfolding lowered
+pub lowered-count : (lines : List Line) (amounts : List ℕ) → length (lowered-lines lines amounts) ≡ length lines
+unfolding lowered-lines
 lowered-count [] amounts = refl
 lowered-count (line ∷ lines) [] = refl
 lowered-count (line ∷ lines) (amount ∷ amounts) = ap suc (lowered-count lines amounts)
 
-lowered-limit : (lines : List Line) (amounts : List ℕ) (l : ℕ) → getD (lowered lines amounts) l no-line .limit ≡ getD lines l no-line .limit - getD amounts l 0
-unfolding lowered
+lowered-limit : (lines : List Line) (amounts : List ℕ) (l : ℕ) → getD (lowered-lines lines amounts) l no-line .limit ≡ getD lines l no-line .limit - getD amounts l 0
+unfolding lowered-lines
 lowered-limit [] amounts l = omega arith
 lowered-limit (line ∷ lines) [] l = omega arith
 lowered-limit (line ∷ lines) (amount ∷ amounts) zero = refl
 lowered-limit (line ∷ lines) (amount ∷ amounts) (suc l) = lowered-limit lines amounts l
 
-lowered-sensitivity : (lines : List Line) (amounts : List ℕ) (l z : ℕ) → getD (lowered lines amounts) l no-line .sensitivity z ≡ getD lines l no-line .sensitivity z
-unfolding lowered
+lowered-sensitivity : (lines : List Line) (amounts : List ℕ) (l z : ℕ) → getD (lowered-lines lines amounts) l no-line .sensitivity z ≡ getD lines l no-line .sensitivity z
+unfolding lowered-lines
 lowered-sensitivity [] amounts l z = refl
 lowered-sensitivity (line ∷ lines) [] l z = refl
 lowered-sensitivity (line ∷ lines) (amount ∷ amounts) zero z = refl

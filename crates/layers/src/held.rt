@@ -80,7 +80,7 @@ impl<N: Network> HeldBack<N> {
 
     /// Holds so much back of a line from now on: refused where there is no such line, else where the amount is out of range.
     pub fn hold_back(&mut self, line: usize, kwh: u32) -> Result<(), Fault>
-        ensures { λ r. ⌜ Answered r (line < line-count (N·Network .grid (now (self .entry) .below))) (kwh ≤ most-kWh) Always (λ _. (now (self .exit) .below ≡ now (self .entry) .below) × Holds (N·Network .grid (now (self .entry) .below)) (lowered-grid (N·Network .grid (now (self .entry) .below)) (now (self .entry) .amounts .kwh)) (lowered-grid (N·Network .grid (now (self .exit) .below)) (now (self .exit) .amounts .kwh)) line kwh) (now (self .exit) ≡ now (self .entry)) ⌝ }
+        ensures { λ r. ⌜ Answered r (line < line-count (N·Network .grid (now (self .entry) .below))) (kwh ≤ most-kWh) Always (λ _. (now (self .exit) .below ≡ now (self .entry) .below) × Holds (N·Network .grid (now (self .entry) .below)) (lowered-grid (N·Network .grid (now (self .entry) .below)) (now (self .entry) .amounts .kwh)) (lowered-grid (N·Network .grid (now (self .exit) .below)) (now (self .exit) .amounts .kwh)) line kwh × (now (self .exit) .amounts .kwh ≡ set (now (self .entry) .amounts .kwh) line kwh)) (now (self .exit) ≡ now (self .entry)) ⌝ }
     {
         if line >= self.below.lines() {
             return Err(Fault::Missing);
@@ -95,6 +95,7 @@ impl<N: Network> HeldBack<N> {
     fn hold(&mut self, line: usize, kwh: u32)
         requires { ⌜ line < most-lines ⌝ }
         ensures below { λ _. ⌜ now (self .exit) .below ≡ now (self .entry) .below ⌝ }
+        ensures sets { λ _. ⌜ now (self .exit) .amounts .kwh ≡ set (now (self .entry) .amounts .kwh) line kwh ⌝ }
         ensures holds { λ _. ⌜ Holds (N·Network .grid (now (self .entry) .below)) (lowered-grid (N·Network .grid (now (self .entry) .below)) (now (self .entry) .amounts .kwh)) (lowered-grid (N·Network .grid (now (self .exit) .below)) (now (self .exit) .amounts .kwh)) line kwh ⌝ }
     {
         self.amounts.hold(line, kwh);

@@ -1,7 +1,11 @@
 //! A list of orders of one kind, whichever it is.
 
+ghost use Prim.Native.Nat.{_≤_, _<_};
 ghost use mathlib.Core.Path.{_≡_};
 ghost use mathlib.Core.List.{[]};
+ghost use lib.ListN.{length};
+ghost use Rattle.std.specs.Options.{Cases};
+ghost use Rattle.orders.specs.Reads.{entry};
 ghost use Rattle.listed.specs.Entries.{entries-by};
 use super::Kind;
 use auction::Fault;
@@ -20,11 +24,22 @@ pub struct Listed<K> {
 
 impl<K: Kind> Listed<K> {
     pub fn new() -> Listed<K>
-        ensures { λ r. ⌜ entries-by (K·Kind .meaning) (r .rows) ≡ [] ⌝ }
+        ensures { λ r. ⌜ entries-by (K·Kind .meant) (r .rows) ≡ [] ⌝ }
     {
         Listed {
             rows: Rows::new(),
             kind: PhantomData,
+        }
+    }
+
+    /// The order with this number, if it was entered.
+    fn order(&self, number: usize) -> Option<K>
+        ensures { λ r. ⌜ Cases r (length (entries-by (K·Kind .meant) (now (self .entry) .rows)) ≤ number)
+            (λ order. (number < length (entries-by (K·Kind .meant) (now (self .entry) .rows))) × (K·Kind .meaning order ≡ entry (entries-by (K·Kind .meant) (now (self .entry) .rows)) number .order)) ⌝ }
+    {
+        match self.rows.row(number) {
+            Some(row) => K::of_row(&row),
+            None => None,
         }
     }
 }
@@ -32,7 +47,7 @@ impl<K: Kind> Listed<K> {
 pub impl<K: Kind> OrderList for Listed<K> as ListedOrders {
     type Wish = K::Wish;
 
-    ghost entries = { λ s. entries-by (K·Kind .meaning) (s .rows) };
+    ghost entries = { λ s. entries-by (K·Kind .meant) (s .rows) };
 
     ghost order = { K·Kind .wished };
 
@@ -59,36 +74,36 @@ pub impl<K: Kind> OrderList for Listed<K> as ListedOrders {
     }
 
     fn largest(&self, number: usize) -> u32 {
-        match self.rows.row(number) {
-            Some(row) => row.terms.quantity,
+        match self.order(number) {
+            Some(order) => order.largest(),
             None => 0,
         }
     }
 
     fn last_zone(&self, number: usize) -> u8 {
-        match self.rows.row(number) {
-            Some(row) => K::last_zone(row.terms),
+        match self.order(number) {
+            Some(order) => order.last_zone(),
             None => 0,
         }
     }
 
     fn worth(&self, number: usize, quantity: u32) -> i64 {
-        match self.rows.row(number) {
-            Some(row) => K::worth(row.terms, quantity),
+        match self.order(number) {
+            Some(order) => order.worth(quantity),
             None => 0,
         }
     }
 
     fn injection(&self, number: usize, quantity: u32, zone: usize) -> i64 {
-        match self.rows.row(number) {
-            Some(row) => K::injection(row.terms, quantity, zone),
+        match self.order(number) {
+            Some(order) => order.injection(quantity, zone),
             None => 0,
         }
     }
 
     fn content(&self, number: usize, quantity: u32, prices: &[i32; MOST_ZONES]) -> bool {
-        match self.rows.row(number) {
-            Some(row) => K::content(row.terms, quantity, prices),
+        match self.order(number) {
+            Some(order) => order.content(quantity, prices),
             None => false,
         }
     }
@@ -104,8 +119,8 @@ pub impl<K: Kind> OrderList for Listed<K> as ListedOrders {
         zones: usize,
         elsewhere: u32,
     ) -> Result<(), Fault> {
-        match K::terms(wish, zones) {
-            Ok(terms) => self.rows.push(house, terms, elsewhere),
+        match K::row(house, wish, zones) {
+            Ok(row) => self.rows.push(row, elsewhere),
             Err(fault) => Err(fault),
         }
     }

@@ -3,8 +3,9 @@
 ghost use Prim.Native.Nat.{ℕ, _≤_};
 ghost use mathlib.Core.Path.{_≡_};
 ghost use lib.IntN.{natAbs};
+ghost use Rattle.auction.specs.Limits.{Limit-in-range};
 ghost use Rattle.auction.specs.Grids.{Grid, line-count, limitAt, sensitivityAt};
-ghost use Rattle.network.specs.Bounds.{most-zones, most-lines, most-kWh, most-sensitivity};
+ghost use Rattle.network.specs.Bounds.{most-zones, most-lines, most-sensitivity};
 
 mod list;
 mod listed;
@@ -33,7 +34,7 @@ pub trait Network {
 
     law fewlines: { (n : Self) → line-count (grid n) ≤ most-lines };
 
-    law limited: { (n : Self) (l : ℕ) → limitAt (grid n) l ≤ most-kWh };
+    law limited: { (n : Self) (l : ℕ) → Limit-in-range (limitAt (grid n) l) };
 
     law sensitive: { (n : Self) (l z : ℕ) → natAbs (sensitivityAt (grid n) l z) ≤ most-sensitivity };
 

@@ -3,12 +3,11 @@
 ghost use mathlib.Core.Path.{_≡_};
 ghost use mathlib.Core.List.{[], _∷_, _++_};
 ghost use Rattle.auction.specs.Refusals.{Answered, Always};
-ghost use Rattle.rows.specs.Rows.{used, entered, rows-without, Room};
+ghost use Rattle.rows.specs.Rows.{Ranged, used, entered, rows-without, Room};
 use super::MOST_KWH;
 use super::MOST_ORDERS;
 use super::Row;
 use super::Rows;
-use super::Terms;
 use auction::Fault;
 use auction::House;
 
@@ -19,12 +18,10 @@ impl Rows {
         let blank = Row {
             house: House::Zero,
             standing: false,
-            terms: Terms {
-                first: 0,
-                second: 0,
-                price: 0,
-                quantity: 1,
-            },
+            first: 0,
+            second: 0,
+            price: 0,
+            quantity: 0,
         };
         Rows {
             count: 0,
@@ -33,27 +30,29 @@ impl Rows {
         }
     }
 
-    /// Enters a standing order behind the others, if there is room for it with so many kWh standing in other lists.
-    pub fn push(&mut self, house: House, terms: Terms, elsewhere: u32) -> Result<(), Fault>
-        ensures { λ r. ⌜ Answered r Always Always (Room (used (now (self .entry))) elsewhere (terms .quantity))
-            (λ _. used (now (self .exit)) ≡ used (now (self .entry)) ++ entered house terms ∷ [])
+    /// Enters a row behind the others, standing, if its numbers are in range and there is room for it with so many kWh standing in other lists.
+    pub fn push(&mut self, row: Row, elsewhere: u32) -> Result<(), Fault>
+        ensures { λ r. ⌜ Answered r Always (Ranged row) (Room (used (now (self .entry))) elsewhere (row .quantity))
+            (λ _. used (now (self .exit)) ≡ used (now (self .entry)) ++ entered row ∷ [])
             (used (now (self .exit)) ≡ used (now (self .entry))) ⌝ }
     {
+        if !row.in_range() {
+            return Err(Fault::OutOfRange);
+        }
         let count = self.count;
         if count >= MOST_ORDERS {
             return Err(Fault::NoPlace);
         }
-        let standing = self.standing as u64 + elsewhere as u64 + terms.quantity as u64;
+        let standing = self.standing as u64 + elsewhere as u64 + row.quantity as u64;
         if standing > MOST_KWH as u64 {
             return Err(Fault::NoPlace);
         }
         self.rows[count] = Row {
-            house,
             standing: true,
-            terms,
+            ..row
         };
         self.count = count + 1;
-        self.standing += terms.quantity;
+        self.standing += row.quantity;
         Ok(())
     }
 
@@ -66,11 +65,10 @@ impl Rows {
         }
         let row = self.rows[number];
         if row.standing {
-            self.standing -= row.terms.quantity;
+            self.standing -= row.quantity;
             self.rows[number] = Row {
-                house: row.house,
                 standing: false,
-                terms: row.terms,
+                ..row
             };
         }
     }

@@ -1,15 +1,13 @@
 //! The numbers of orders in rows, as every list of orders with a price, a quantity and at most two zones keeps them.
 
 mod changes;
-mod numbers;
+mod ranges;
 mod reads;
 mod row;
 mod table;
-mod terms;
 
 pub use row::Row;
 pub use table::Rows;
-pub use terms::Terms;
 
 /// The highest price of an order, in cents per MWh.
 pub const MOST_PRICE: u32 = 500_000;

@@ -15,7 +15,7 @@ use Rattle.std.proofs.shelf.Tests.{cases-lt, cases-order}
 use Rattle.auction.specs.Sums.{Σ, Σℕ}
 use Rattle.auction.specs.Orders.{Order, Possible, ZonePrices, gain, Content, Sound}
 use Rattle.orders.specs.Reads.{array-prices}
-use Rattle.rows.specs.declared.terms.Terms.{Terms}
+use Rattle.rows.specs.Bounds.{In-range}
 use Rattle.laws.proofs.Ring.{distrib}
 use Rattle.kinds.specs.Kinds.{into}
 use Rattle.kinds.specs.Slopes.{price-in, scaled}
@@ -161,15 +161,15 @@ steps-at-most price largest q h =
     let whole = parts q (largest / 2) in
     omega arith
 
-pub stepped-sound : (t : Terms) → Sound (stepped (t .first) (t .price) (t .quantity))
-stepped-sound t = record {
+pub stepped-sound : (zone price quantity : ℕ) → In-range price quantity → Sound (stepped zone price quantity)
+stepped-sound zone price quantity t = record {
   largest-positive = t .some;
-  largest-in-range = t .modest;
-  nothing-is-worth-nothing = ap pos (no-more (in-steps (t .quantity / 2) (t .price) (t .price / 2) 0) (steps-at-most (t .price) (t .quantity) 0 (t .cheap)));
-  nothing-feeds-nothing = λ z. ap negℤ (nothing (t .first) z);
-  worth-in-range = λ q p. steps-at-most (t .price) (t .quantity) q (t .cheap);
-  injections-in-range = λ q n p. let k = Σℕ-into n (t .first) q in let l = Σℕ-under n (λ z. natAbs (negℤ (into (t .first) q z))) (size (t .first) q) (size (t .first) q) (λ z. neg-size (into (t .first) q z)) in omega arith;
-  none-beyond-last = λ q z h. ap negℤ (into-elsewhere (t .first) q z (λ e. omega arith));
+  largest-in-range = t .quantity-in-range;
+  nothing-is-worth-nothing = ap pos (no-more (in-steps (quantity / 2) price (price / 2) 0) (steps-at-most price quantity 0 (t .price-in-range)));
+  nothing-feeds-nothing = λ z. ap negℤ (nothing zone z);
+  worth-in-range = λ q p. steps-at-most price quantity q (t .price-in-range);
+  injections-in-range = λ q n p. let k = Σℕ-into n zone q in let l = Σℕ-under n (λ z. natAbs (negℤ (into zone q z))) (size zone q) (size zone q) (λ z. neg-size (into zone q z)) in omega arith;
+  none-beyond-last = λ q z h. ap negℤ (into-elsewhere zone q z (λ e. omega arith));
 }
   where
     no-more : (n : ℕ) → n ≤ 0 → n ≡ 0

@@ -7,12 +7,12 @@ use Rattle.kinds.proofs.linear.money.Needs as need
 
 pub cast-result-3 : need.cast-result-3
 cast-result-3 c =
-    let modest : c .args .quantity ≤ 10000000 = omega arith in
-    let small : c .args .terms .price * c .args .quantity ≤ 500000 * 10000000 = mul-le-mul (c .args .terms .cheap) modest in
+    let fits : c .args .quantity ≤ 4294967295 = omega arith in
+    let small : c .args .price * c .args .quantity ≤ 500000 * 4294967295 = mul-le-mul (c .pre) fits in
     search needs
 
 pub returns : need.returns
 returns c =
-    let modest : c .args .quantity ≤ 10000000 = omega arith in
-    let small : c .args .terms .price * c .args .quantity ≤ 500000 * 10000000 = mul-le-mul (c .args .terms .cheap) modest in
-    record { possible = λ h. omega (arith, ints); impossible = λ h. absurd (omega arith) }
+    let fits : c .args .quantity ≤ 4294967295 = omega arith in
+    let small : c .args .price * c .args .quantity ≤ 500000 * 4294967295 = mul-le-mul (c .pre) fits in
+    omega (arith, ints)

@@ -12,6 +12,7 @@ returns g c =
     let before = c .args .self .now .amounts .kwh in
     record {
       below = refl;
+      sets = c .hold .ensures;
       holds =
           subst (λ (after : List ℕ). Holds below (lowered-grid below before) (lowered-grid below after) (c .args .line) (c .args .kwh)) (sym (c .hold .ensures))
           (holds below before (c .args .line) (c .args .kwh) (omega arith));

@@ -1,10 +1,8 @@
-use mathlib.Core.Path.{_≡_, sym, ap, _∙_}
-use mathlib.Core.List.{map}
+use native.Mathlib.Omega.{arith}
 use Rattle.std.proofs.shelf.Lists.{length-map}
 use Rattle.rows.specs.Rows.{used}
 use Rattle.listed.specs.Entries.{entry-by}
-use Rattle.listed.proofs.Entered.{kwh-entries, without-entries}
 use Rattle.listed.proofs.listed.ListedOrders.count.Needs as need
 
 pub returns : need.returns
-returns g c = c .count .ensures ∙ sym (length-map (used (c .args .self .now .rows)) (entry-by (g .K·Kind .meaning)))
+returns g c = let same = length-map (used (c .args .self .now .rows)) (entry-by (g .K·Kind .meant)) in omega arith

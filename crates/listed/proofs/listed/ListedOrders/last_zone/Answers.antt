@@ -1,14 +1,11 @@
-use mathlib.Core.Path.{_≡_, sym, ap, subst, _∙_}
-use mathlib.Core.Bool.{true, false}
+use mathlib.Core.Path.{ap}
 use native.Mathlib.Omega.{arith}
-use Rattle.auction.specs.Hours.{Entry}
-use Rattle.orders.specs.Reads.{Answers, ContentAt}
-use Rattle.rows.specs.Rows.{used}
-use Rattle.listed.proofs.Entered.{entry-some, entry-none, inside, outside}
+use Rattle.listed.specs.Entries.{entries-by}
+use Rattle.listed.proofs.Entered.{entry-past}
 use Rattle.listed.proofs.listed.ListedOrders.last_zone.Needs as need
 
 pub returns-in-Some : need.returns-in-Some
-returns-in-Some g c = c .last-zone .ensures ∙ sym (ap (λ e. e .order .lastZone) (entry-some (g .K·Kind .meaning) (used (c .args .self .now .rows)) (c .args .number) (c .in-Some .row) (c .in-Some .ensures tt)))
+returns-in-Some g c = let same = ap (λ o. o .lastZone) (c .in-Some .ensures tt .1) in omega arith
 
 pub returns-in-None : need.returns-in-None
-returns-in-None g c = sym (ap (λ e. e .order .lastZone) (entry-none (g .K·Kind .meaning) (used (c .args .self .now .rows)) (c .args .number) (c .in-None .ensures tt)))
+returns-in-None g c = let none = ap (λ e. e .order .lastZone) (entry-past (entries-by (g .K·Kind .meant) (c .args .self .now .rows)) (c .args .number) (c .in-None .ensures tt)) in omega arith

@@ -1,10 +1,7 @@
-use mathlib.Core.Path.{_≡_, sym, ap, _∙_}
-use mathlib.Core.List.{map}
-use Rattle.std.proofs.shelf.Lists.{length-map}
+use native.Mathlib.Omega.{arith}
 use Rattle.rows.specs.Rows.{used}
-use Rattle.listed.specs.Entries.{entry-by}
-use Rattle.listed.proofs.Entered.{kwh-entries, without-entries}
+use Rattle.listed.proofs.Entered.{kwh-entries}
 use Rattle.listed.proofs.listed.ListedOrders.standing_kwh.Needs as need
 
 pub returns : need.returns
-returns g c = c .standing-kwh .ensures ∙ sym (kwh-entries (g .K·Kind .meaning) (g .K·Kind·met .sized) (used (c .args .self .now .rows)))
+returns g c = let same = kwh-entries (g .K·Kind .meant) (g .K·Kind·met .sized) (used (c .args .self .now .rows)) in omega arith
