@@ -7,3 +7,4 @@ pub mod Summing
 pub mod Pricing
 pub mod Casts
 pub mod Verdicts
+pub mod Threes

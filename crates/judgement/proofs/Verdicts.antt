@@ -77,12 +77,12 @@ module _ (g : Grid) (b : Book) (d : Dispatch) (p : Prices) where
   -- a rule that is put at each line, or at each zone
   module _ (mk : ℕ → Broken) (k : ℕ) (number : (i : ℕ) → broken-number (mk i) ≡ k) (first : (i : ℕ) → broken-place (mk i) .0 ≡ i) (second : (i : ℕ) → broken-place (mk i) .1 ≡ 0) (only : (y : Broken) → broken-number y ≡ k → (i : ℕ) × (y ≡ mk i)) where
     first-along : (i : ℕ) → Met-below k → ((j : ℕ) → j < i → Met g b d p (mk j)) → (Met g b d p (mk i) → ⊥) → First-broken g b d p (mk i)
-    first-along i below before fails = record
-      { broken = fails
-      ; rules-before = λ y h. below y (subst (λ (n : ℕ). broken-number y < n) (number i) h)
-      ; places-before = λ y e h. along y (only y (e ∙ number i)) h
-      ; there-before = λ y e f h. absurd (none-before-0 (broken-place y .1) (broken-place (mk i) .1) (second i) h)
-      }
+    first-along i below before fails = record {
+      broken = fails;
+      rules-before = λ y h. below y (subst (λ (n : ℕ). broken-number y < n) (number i) h);
+      places-before = λ y e h. along y (only y (e ∙ number i)) h;
+      there-before = λ y e f h. absurd (none-before-0 (broken-place y .1) (broken-place (mk i) .1) (second i) h);
+    }
       where
         along : (y : Broken) → (j : ℕ) × (y ≡ mk j) → broken-place y .0 < broken-place (mk i) .0 → Met g b d p y
         along y found h = subst (Met g b d p) (sym (found .1)) (before (found .0) (nearer i (broken-place y .0) (broken-place (mk i) .0) (found .0) (ap (λ x. broken-place x .0) (found .1) ∙ first (found .0)) (first i) h))
@@ -96,15 +96,16 @@ module _ (g : Grid) (b : Book) (d : Dispatch) (p : Prices) where
   -- a rule that is put at each order of each list
   module _ (mk : ℕ → ℕ → Broken) (k : ℕ) (number : (l n : ℕ) → broken-number (mk l n) ≡ k) (first : (l n : ℕ) → broken-place (mk l n) .0 ≡ l) (second : (l n : ℕ) → broken-place (mk l n) .1 ≡ n) (only : (y : Broken) → broken-number y ≡ k → (l : ℕ) × (n : ℕ) × (y ≡ mk l n)) where
     first-order : (l n : ℕ) → Met-below k → ((j m : ℕ) → j < l → Met g b d p (mk j m)) → ((m : ℕ) → m < n → Met g b d p (mk l m)) → (Met g b d p (mk l n) → ⊥) → First-broken g b d p (mk l n)
-    first-order l n below lists before fails = record
-      { broken = fails
-      ; rules-before = λ y h. below y (subst (λ (m : ℕ). broken-number y < m) (number l n) h)
-      ; places-before = λ y e h. earlier-list y (only y (e ∙ number l n)) h
-      ; there-before = λ y e f h. earlier-here y (only y (e ∙ number l n)) f h
-      }
+    first-order l n below lists before fails = record {
+      broken = fails;
+      rules-before = λ y h. below y (subst (λ (m : ℕ). broken-number y < m) (number l n) h);
+      places-before = λ y e h. earlier-list y (only y (e ∙ number l n)) h;
+      there-before = λ y e f h. earlier-here y (only y (e ∙ number l n)) f h;
+    }
       where
         earlier-list : (y : Broken) → (j : ℕ) × (m : ℕ) × (y ≡ mk j m) → broken-place y .0 < broken-place (mk l n) .0 → Met g b d p y
         earlier-list y found h = subst (Met g b d p) (sym (found .2)) (lists (found .0) (found .1) (nearer l (broken-place y .0) (broken-place (mk l n) .0) (found .0) (ap (λ x. broken-place x .0) (found .2) ∙ first (found .0) (found .1)) (first l n) h))
+
         earlier-here : (y : Broken) → (j : ℕ) × (m : ℕ) × (y ≡ mk j m) → broken-place y .0 ≡ broken-place (mk l n) .0 → broken-place y .1 < broken-place (mk l n) .1 → Met g b d p y
         earlier-here y found f h =
             let same : found .0 ≡ l = sym (ap (λ x. broken-place x .0) (found .2) ∙ first (found .0) (found .1)) ∙ f ∙ first l n in
@@ -135,12 +136,12 @@ module _ (g : Grid) (b : Book) (d : Dispatch) (p : Prices) where
   balance-met below met y h = ⊎-elim (λ e. subst (Met g b d p) (sym (only-balance y e)) met) (below y) (at-or-below (broken-number y) 11 h)
 
   pub balance-first : Met-below 11 → (Met g b d p Balance → ⊥) → First-broken g b d p Balance
-  balance-first below fails = record
-    { broken = fails
-    ; rules-before = below
-    ; places-before = λ y e h. absurd (none-before-0 (broken-place y .0) 0 refl h)
-    ; there-before = λ y e f h. absurd (none-before-0 (broken-place y .1) 0 refl h)
-    }
+  balance-first below fails = record {
+    broken = fails;
+    rules-before = below;
+    places-before = λ y e h. absurd (none-before-0 (broken-place y .0) 0 refl h);
+    there-before = λ y e f h. absurd (none-before-0 (broken-place y .1) 0 refl h);
+  }
 
   pub flows-met : Met-below 12 → ((l : ℕ) → Met g b d p (Flow l)) → Met-below 13
   flows-met = met-along Flow 12 (λ i. refl) (λ i. refl) (λ i. refl) only-flow

@@ -1,0 +1,94 @@
+//! The judgement of a sheet: the rules in their order, and what an accepted sheet amounts to.
+
+ghost use mathlib.Core.Path.{_≡_};
+ghost use Rattle.auction.specs.Houses.{house-number};
+ghost use Rattle.auction.specs.Hours.{Takes, over-orders, welfare-of};
+ghost use Rattle.orders.specs.Reads.{array-prices};
+ghost use Rattle.sheets.specs.Proposals.{dispatch-of};
+ghost use Rattle.judgement.specs.Parts.{All-take, At-ease, own-charge};
+ghost use Rattle.judgement.specs.Verdicts.{First-order, Of-order, book-of};
+use crate::lists::charges_of;
+use crate::lists::first_discontent;
+use crate::lists::first_impossible;
+use crate::lists::worth_of;
+use crate::numbers::plus;
+use auction::House;
+use orders::MOST_ZONES;
+use orders::OrderList;
+use sheets::Sheet;
+
+/// The first order of all three lists that takes what it may not, by list and number.
+fn impossible<X: OrderList, Y: OrderList, W: OrderList>(
+    first: &X,
+    second: &Y,
+    third: &W,
+    sheet: &Sheet,
+) -> Option<(u8, usize)>
+    ensures { λ r. ⌜ First-order (Of-order (book-of (X·OrderList .entries (now (first .entry))) (Y·OrderList .entries (now (second .entry))) (W·OrderList .entries (now (third .entry)))) (dispatch-of (now (sheet .entry))) Takes) r ⌝ }
+{
+    if let Some(number) = first_impossible(first, 0, sheet) {
+        return Some((0, number));
+    }
+    if let Some(number) = first_impossible(second, 1, sheet) {
+        return Some((1, number));
+    }
+    if let Some(number) = first_impossible(third, 2, sheet) {
+        return Some((2, number));
+    }
+    None
+}
+
+/// The first standing order of all three lists that is not content, by list and number.
+fn discontent<X: OrderList, Y: OrderList, W: OrderList>(
+    first: &X,
+    second: &Y,
+    third: &W,
+    sheet: &Sheet,
+    prices: &[i32; MOST_ZONES],
+) -> Option<(u8, usize)>
+    ensures { λ r. ⌜ First-order (Of-order (book-of (X·OrderList .entries (now (first .entry))) (Y·OrderList .entries (now (second .entry))) (W·OrderList .entries (now (third .entry)))) (dispatch-of (now (sheet .entry))) (At-ease (array-prices (now (prices .entry))))) r ⌝ }
+{
+    if let Some(number) = first_discontent(first, 0, sheet, prices) {
+        return Some((0, number));
+    }
+    if let Some(number) = first_discontent(second, 1, sheet, prices) {
+        return Some((1, number));
+    }
+    if let Some(number) = first_discontent(third, 2, sheet, prices) {
+        return Some((2, number));
+    }
+    None
+}
+
+/// What all orders of the three lists are worth.
+fn welfare<X: OrderList, Y: OrderList, W: OrderList>(
+    first: &X,
+    second: &Y,
+    third: &W,
+    sheet: &Sheet,
+) -> i64
+    requires { ⌜ All-take (X·OrderList .entries (now first)) (dispatch-of (now sheet) 0) ⌝ ∗ ⌜ All-take (Y·OrderList .entries (now second)) (dispatch-of (now sheet) 1) ⌝ ∗ ⌜ All-take (W·OrderList .entries (now third)) (dispatch-of (now sheet) 2) ⌝ }
+    ensures { λ r. ⌜ r ≡ welfare-of (book-of (X·OrderList .entries (now (first .entry))) (Y·OrderList .entries (now (second .entry))) (W·OrderList .entries (now (third .entry)))) (dispatch-of (now (sheet .entry))) ⌝ }
+{
+    let both = plus(worth_of(first, 0, sheet), worth_of(second, 1, sheet));
+    plus(both, worth_of(third, 2, sheet))
+}
+
+/// What a house pays for its orders in the three lists at these zone prices.
+fn amount<X: OrderList, Y: OrderList, W: OrderList>(
+    first: &X,
+    second: &Y,
+    third: &W,
+    sheet: &Sheet,
+    prices: &[i32; MOST_ZONES],
+    house: House,
+) -> i64
+    requires { ⌜ All-take (X·OrderList .entries (now first)) (dispatch-of (now sheet) 0) ⌝ ∗ ⌜ All-take (Y·OrderList .entries (now second)) (dispatch-of (now sheet) 1) ⌝ ∗ ⌜ All-take (W·OrderList .entries (now third)) (dispatch-of (now sheet) 2) ⌝ }
+    ensures { λ r. ⌜ r ≡ over-orders (book-of (X·OrderList .entries (now (first .entry))) (Y·OrderList .entries (now (second .entry))) (W·OrderList .entries (now (third .entry)))) (dispatch-of (now (sheet .entry))) (own-charge (array-prices (now (prices .entry))) (house-number house)) ⌝ }
+{
+    let both = plus(
+        charges_of(first, 0, sheet, prices, house),
+        charges_of(second, 1, sheet, prices, house),
+    );
+    plus(both, charges_of(third, 2, sheet, prices, house))
+}
