@@ -8,3 +8,4 @@ pub mod Pricing
 pub mod Casts
 pub mod Verdicts
 pub mod Threes
+pub mod Ties

@@ -23,17 +23,17 @@ fn impossible<X: OrderList, Y: OrderList, W: OrderList>(
     second: &Y,
     third: &W,
     sheet: &Sheet,
-) -> Option<(u8, usize)>
+) -> Option<(u8, u16)>
     ensures { λ r. ⌜ First-order (Of-order (book-of (X·OrderList .entries (now (first .entry))) (Y·OrderList .entries (now (second .entry))) (W·OrderList .entries (now (third .entry)))) (dispatch-of (now (sheet .entry))) Takes) r ⌝ }
 {
     if let Some(number) = first_impossible(first, 0, sheet) {
-        return Some((0, number));
+        return Some((0, number as u16));
     }
     if let Some(number) = first_impossible(second, 1, sheet) {
-        return Some((1, number));
+        return Some((1, number as u16));
     }
     if let Some(number) = first_impossible(third, 2, sheet) {
-        return Some((2, number));
+        return Some((2, number as u16));
     }
     None
 }
@@ -45,17 +45,17 @@ fn discontent<X: OrderList, Y: OrderList, W: OrderList>(
     third: &W,
     sheet: &Sheet,
     prices: &[i32; MOST_ZONES],
-) -> Option<(u8, usize)>
+) -> Option<(u8, u16)>
     ensures { λ r. ⌜ First-order (Of-order (book-of (X·OrderList .entries (now (first .entry))) (Y·OrderList .entries (now (second .entry))) (W·OrderList .entries (now (third .entry)))) (dispatch-of (now (sheet .entry))) (At-ease (array-prices (now (prices .entry))))) r ⌝ }
 {
     if let Some(number) = first_discontent(first, 0, sheet, prices) {
-        return Some((0, number));
+        return Some((0, number as u16));
     }
     if let Some(number) = first_discontent(second, 1, sheet, prices) {
-        return Some((1, number));
+        return Some((1, number as u16));
     }
     if let Some(number) = first_discontent(third, 2, sheet, prices) {
-        return Some((2, number));
+        return Some((2, number as u16));
     }
     None
 }

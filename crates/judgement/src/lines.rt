@@ -29,6 +29,14 @@ fn sum_of(nets: &[i64; MOST_ZONES]) -> i64
     total
 }
 
+/// Do the net injections add up to 0?
+pub(crate) fn in_balance(nets: &[i64; MOST_ZONES]) -> bool
+    requires { ⌜ Small-nets (now nets) ⌝ }
+    ensures { λ r. ⌜ Decides r (Σ 24 (λ z. getD (now (nets .entry)) z (pos 0)) ≡ pos 0) ⌝ }
+{
+    sum_of(nets) == 0
+}
+
 /// What a zone's net injection adds to the flow over a line.
 fn share<N: Network>(network: &N, line: usize, zone: usize, net: i64) -> i64
     requires { ⌜ natAbs net ≤ 60000000 ⌝ }
