@@ -9,3 +9,4 @@ pub mod Casts
 pub mod Verdicts
 pub mod Threes
 pub mod Ties
+pub mod Judging

@@ -52,6 +52,11 @@ abbrev pub First-order : (ℕ → ℕ → Type 0) → Option (ℕ × ℕ) → Ty
 First-order P None = (l n : ℕ) → P l n
 First-order P (Some place) = ((l n : ℕ) → l < place .0 → P l n) × ((n : ℕ) → n < place .1 → P (place .0) n) × (P (place .0) (place .1) → ⊥)
 
+-- the rules alone: a sheet that breaks none, with the prices of the zones, or the first that it breaks
+abbrev pub Ruled : Grid → Book → Dispatch → Prices → Result (List ℤ) Broken → Type 0
+Ruled g b d p (Ok prices) = Accepted g b d p × ((z : ℕ) → getD prices z (pos 0) ≡ zone-price g p z)
+Ruled g b d p (Err broken) = First-broken g b d p broken
+
 -- The verdict on a sheet: accepted with its welfare, its rent and what the two houses pay, or the first rule that it breaks, at its first place.
 abbrev pub Judged : Grid → Book → Dispatch → Prices → Result Verdict Broken → Type 0
 Judged g b d p (Ok v) = Accepted g b d p × (v .welfare ≡ welfare-of b d) × (v .rent ≡ rent-of g b d p) × (v .zero ≡ amount-of g b d p 0) × (v .one ≡ amount-of g b d p 1)

@@ -4,15 +4,22 @@ ghost use mathlib.Core.Path.{_≡_};
 ghost use Rattle.auction.specs.Houses.{house-number};
 ghost use Rattle.auction.specs.Hours.{Takes, over-orders, welfare-of};
 ghost use Rattle.orders.specs.Reads.{array-prices};
-ghost use Rattle.sheets.specs.Proposals.{dispatch-of};
+ghost use Rattle.sheets.specs.Proposals.{dispatch-of, prices-of};
 ghost use Rattle.judgement.specs.Parts.{All-take, At-ease, own-charge};
-ghost use Rattle.judgement.specs.Verdicts.{First-order, Of-order, book-of};
+ghost use Rattle.judgement.specs.Verdicts.{First-order, Of-order, Ruled, book-of};
+use crate::flows::net_injections;
+use crate::lines::first_overloaded;
+use crate::lines::first_unbound;
+use crate::lines::in_balance;
 use crate::lists::charges_of;
 use crate::lists::first_discontent;
 use crate::lists::first_impossible;
 use crate::lists::worth_of;
 use crate::numbers::plus;
+use crate::prices::zone_prices;
+use auction::Broken;
 use auction::House;
+use network::Network;
 use orders::MOST_ZONES;
 use orders::OrderList;
 use sheets::Sheet;
@@ -91,4 +98,42 @@ fn amount<X: OrderList, Y: OrderList, W: OrderList>(
         charges_of(second, 1, sheet, prices, house),
     );
     plus(both, charges_of(third, 2, sheet, prices, house))
+}
+
+/// The rules in their order: the zone prices of a sheet that breaks none, or the first rule broken, at its first place.
+fn rules<N: Network, X: OrderList, Y: OrderList, W: OrderList>(
+    network: &N,
+    first: &X,
+    second: &Y,
+    third: &W,
+    sheet: &Sheet,
+) -> Result<[i32; MOST_ZONES], Broken>
+    ensures { λ r. ⌜ Ruled (N·Network .grid (now (network .entry))) (book-of (X·OrderList .entries (now (first .entry))) (Y·OrderList .entries (now (second .entry))) (W·OrderList .entries (now (third .entry)))) (dispatch-of (now (sheet .entry))) (prices-of (now (sheet .entry))) r ⌝ }
+{
+    if let Some((list, number)) = impossible(first, second, third, sheet) {
+        return Err(Broken::Quantity { list, number });
+    }
+    let nets = net_injections(network.zones(), first, second, third, sheet);
+    if !in_balance(&nets) {
+        return Err(Broken::Balance);
+    }
+    if let Some(line) = first_overloaded(network, &nets) {
+        let line = line as u8;
+        return Err(Broken::Flow { line });
+    }
+    let prices = match zone_prices(network, sheet) {
+        Ok(prices) => prices,
+        Err(zone) => {
+            let zone = zone as u8;
+            return Err(Broken::ZonePrice { zone });
+        }
+    };
+    if let Some(line) = first_unbound(network, &nets, sheet) {
+        let line = line as u8;
+        return Err(Broken::Binding { line });
+    }
+    if let Some((list, number)) = discontent(first, second, third, sheet, &prices) {
+        return Err(Broken::Contentment { list, number });
+    }
+    Ok(prices)
 }
