@@ -9,4 +9,4 @@ pub mod Casts
 pub mod Verdicts
 pub mod Threes
 pub mod Ties
-pub mod Judging
+pub mod Steps

@@ -4,19 +4,19 @@ use borrow.Author.Differences.{ints}
 use lib.IntN.{_+ℤ_}
 use mir.Syntax.{w64}
 use mir.Val.{toZ, ofZ}
-use Rattle.auction.specs.Houses.{house-number}
-use Rattle.orders.specs.Reads.{array-prices}
-use Rattle.judgement.specs.Parts.{list-sum, own-charge}
+use Rattle.auction.specs.Hours.{welfare-of}
+use Rattle.judgement.specs.Parts.{list-sum, entry-worth}
 use Rattle.sheets.specs.Proposals.{dispatch-of}
 use Rattle.judgement.proofs.Books.{three-lists}
-use Rattle.judgement.proofs.judge.amount.Needs as need
+use Rattle.judgement.proofs.judging.welfare.Needs as need
 
 pub returns : need.returns
+unfolding welfare-of
 returns g c =
     let x = g .X·OrderList .entries (c .args .first .now) in
     let y = g .Y·OrderList .entries (c .args .second .now) in
     let w = g .W·OrderList .entries (c .args .third .now) in
     let d = dispatch-of (c .args .sheet .now) in
-    let f = own-charge (array-prices (c .args .prices .now)) (house-number (c .args .house)) in
+    let f = entry-worth in
     let sum : toZ w64 (ofZ w64 (c .plus .result)) ≡ (list-sum x (d 0) f +ℤ list-sum y (d 1) f) +ℤ list-sum w (d 2) f = omega (arith, ints) in
     sum ∙ three-lists x y w d f

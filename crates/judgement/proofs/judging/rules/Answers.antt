@@ -5,8 +5,8 @@ use Rattle.std.proofs.shelf.Ways.{not-from-decides}
 use Rattle.sheets.specs.Proposals.{dispatch-of, prices-of}
 use Rattle.judgement.specs.Verdicts.{book-of}
 use Rattle.judgement.proofs.Filling.{nets-all}
-use Rattle.judgement.proofs.Judging.{quantity-broken, balance-broken, flow-broken, zone-price-broken, binding-broken, contentment-broken, none-broken}
-use Rattle.judgement.proofs.judge.rules.Needs as need
+use Rattle.judgement.proofs.Steps.{quantity-broken, balance-broken, flow-broken, zone-price-broken, binding-broken, contentment-broken, none-broken}
+use Rattle.judgement.proofs.judging.rules.Needs as need
 
 pub net-injections-nets-requires : need.net-injections-nets-requires
 net-injections-nets-requires g c κs =

@@ -2,7 +2,7 @@ use Rattle.orders.specs.Reads.{array-prices}
 use Rattle.judgement.specs.Parts.{At-ease}
 use Rattle.sheets.specs.Proposals.{dispatch-of}
 use Rattle.judgement.proofs.Threes.{in-first, in-second, in-third, in-none}
-use Rattle.judgement.proofs.judge.discontent.Needs as need
+use Rattle.judgement.proofs.judging.discontent.Needs as need
 
 pub returns-in-Some : need.returns-in-Some
 returns-in-Some g c = in-first (g .X·OrderList .entries (c .args .first .now)) (g .Y·OrderList .entries (c .args .second .now)) (g .W·OrderList .entries (c .args .third .now)) (dispatch-of (c .args .sheet .now)) (At-ease (array-prices (c .args .prices .now))) (c .in-Some .number) (c .in-Some .ensures tt)

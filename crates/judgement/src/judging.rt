@@ -6,7 +6,7 @@ ghost use Rattle.auction.specs.Hours.{Takes, over-orders, welfare-of};
 ghost use Rattle.orders.specs.Reads.{array-prices};
 ghost use Rattle.sheets.specs.Proposals.{dispatch-of, prices-of};
 ghost use Rattle.judgement.specs.Parts.{All-take, At-ease, own-charge};
-ghost use Rattle.judgement.specs.Verdicts.{First-order, Of-order, Ruled, book-of};
+ghost use Rattle.judgement.specs.Verdicts.{First-order, Judged, Of-order, Ruled, book-of};
 use crate::flows::net_injections;
 use crate::lines::first_overloaded;
 use crate::lines::first_unbound;
@@ -16,7 +16,9 @@ use crate::lists::first_discontent;
 use crate::lists::first_impossible;
 use crate::lists::worth_of;
 use crate::numbers::plus;
+use crate::prices::rent_of;
 use crate::prices::zone_prices;
+use crate::verdict::Verdict;
 use auction::Broken;
 use auction::House;
 use network::Network;
@@ -136,4 +138,25 @@ fn rules<N: Network, X: OrderList, Y: OrderList, W: OrderList>(
         return Err(Broken::Contentment { list, number });
     }
     Ok(prices)
+}
+
+/// Judges a sheet: what an accepted one amounts to, or the first rule that it breaks, at its first place.
+pub fn judge<N: Network, X: OrderList, Y: OrderList, W: OrderList>(
+    network: &N,
+    first: &X,
+    second: &Y,
+    third: &W,
+    sheet: &Sheet,
+) -> Result<Verdict, Broken>
+    ensures { λ r. ⌜ Judged (N·Network .grid (now (network .entry))) (book-of (X·OrderList .entries (now (first .entry))) (Y·OrderList .entries (now (second .entry))) (W·OrderList .entries (now (third .entry)))) (dispatch-of (now (sheet .entry))) (prices-of (now (sheet .entry))) r ⌝ }
+{
+    match rules(network, first, second, third, sheet) {
+        Err(broken) => Err(broken),
+        Ok(prices) => Ok(Verdict {
+            welfare: welfare(first, second, third, sheet),
+            rent: rent_of(network, sheet),
+            zero: amount(first, second, third, sheet, &prices, House::Zero),
+            one: amount(first, second, third, sheet, &prices, House::One),
+        }),
+    }
 }
