@@ -1,4 +1,5 @@
 //! The answer to a whole stream: a line for each command.
+#![tactic(auto)]
 
 mod course;
 

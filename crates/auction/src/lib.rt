@@ -1,4 +1,5 @@
 //! What an hour of the zonal auction means: see specs/. Here is why a command is refused: the question that got a no, with its number and its place.
+#![tactic(auto)]
 
 pub mod bounds;
 

@@ -1,4 +1,5 @@
 //! A full hour, 24 zones, 60 lines and 512 orders in each list, judged so many times: for the benchmark.
+#![tactic(auto)]
 
 use auction::House;
 use auction::bounds::{MOST_LINES, MOST_ORDERS, MOST_ZONES};

@@ -1,4 +1,5 @@
 //! The network block of a stream: from its first command to the one that opens the box.
+#![tactic(auto)]
 
 mod draft;
 mod layered;

@@ -1,4 +1,5 @@
 //! The box: orders, sheets and accounts over one network, for any network and any three kinds of orders.
+#![tactic(auto)]
 
 mod calling;
 mod closings;

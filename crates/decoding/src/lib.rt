@@ -1,4 +1,5 @@
 //! From the items of a stream to commands.
+#![tactic(auto)]
 
 mod layouts;
 mod numbers;

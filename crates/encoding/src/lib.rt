@@ -1,4 +1,5 @@
 //! From commands to the bytes of a stream.
+#![tactic(auto)]
 
 ghost use Rattle.std.specs.Prelude.{◌≡◌, ◌∷◌, ◌++◌, IfOk};
 ghost use Rattle.stream.specs.Spelling.{le16, le32, sensitivities, spelled};

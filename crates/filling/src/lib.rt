@@ -1,4 +1,5 @@
 //! The sheets of the two houses, and how each is filled in.
+#![tactic(auto)]
 
 ghost use Rattle.std.specs.Prelude.{◌≡◌, Some};
 ghost use Rattle.auction.specs.Refusals.{Answered, Always};

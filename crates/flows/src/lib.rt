@@ -1,4 +1,5 @@
 //! The flows over the lines of a network, the prices of its zones and its congestion rent, with the rules about them.
+#![tactic(auto)]
 
 mod lines;
 mod numbers;

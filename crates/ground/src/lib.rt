@@ -1,4 +1,5 @@
 //! The network block as far as it was read: a tree or a table that grows, then the layers over it.
+#![tactic(auto)]
 
 ghost use Rattle.std.specs.Prelude.{◌≡◌};
 ghost use Rattle.ground.specs.Grounds.{opened_ground, Begins, TakesOnBase, Takes};

@@ -1,4 +1,5 @@
 //! Reads a stream on the standard input and prints a line for each command.
+#![tactic(auto)]
 
 use answers::answers;
 use std::io::{Read, Write};

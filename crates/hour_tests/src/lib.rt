@@ -1,4 +1,5 @@
 //! Whole streams and their lines, worked out by hand from docs/RULES.md and docs/STREAM.md.
+#![tactic(auto)]
 
 #[cfg(test)]
 mod tests {

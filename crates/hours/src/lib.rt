@@ -1,4 +1,5 @@
 //! The hours of a stream: each command is a call of the box, and is answered by a line.
+#![tactic(auto)]
 
 mod answering;
 mod calls;

@@ -1,4 +1,5 @@
 //! The judgement of a sheet, for any network and any three lists of orders.
+#![tactic(auto)]
 
 mod injections;
 mod judging;

@@ -1,4 +1,5 @@
 //! Offers, bids and transfers, and a list for each.
+#![tactic(auto)]
 
 mod bid;
 mod linear;

@@ -1,4 +1,5 @@
 //! What holds of every sheet that breaks no rule, for every network and all orders: each function here stands for the law that its contract states.
+#![tactic(auto)]
 
 ghost use Rattle.laws.specs.Laws.{InterchangeLaw, OneVerdictLaw, OptimalityLaw, RentLaw};
 

@@ -1,4 +1,5 @@
 //! What can be laid over a network, and is a network again: watched lines of its own, and capacity that is held back.
+#![tactic(auto)]
 
 mod amounts;
 mod held;

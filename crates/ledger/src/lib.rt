@@ -1,4 +1,5 @@
 //! What the box keeps beside orders and sheets: whether the hour is closed, its tries, and the accounts.
+#![tactic(auto)]
 
 mod accounts;
 mod course;

@@ -1,4 +1,5 @@
 //! What every network of zones and lines answers, and the rows from which lines are made.
+#![tactic(auto)]
 
 ghost use Rattle.std.specs.Prelude.{◌≡◌, ℕ, ◌≤◌, unsigned_abs};
 ghost use Rattle.auction.specs.Limits.{LimitInRange};

@@ -1,4 +1,5 @@
 //! Readable text for streams, and streams for readable text.
+#![tactic(auto)]
 
 mod reading;
 mod scanning;

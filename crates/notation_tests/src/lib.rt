@@ -1,4 +1,5 @@
 //! Examples of readable text and streams, worked out by hand.
+#![tactic(auto)]
 
 #[cfg(test)]
 mod tests {

@@ -1,4 +1,5 @@
 //! Each call has exactly one right answer, so the calls alone decide all answers: see specs/. No code; each function stands for the law that its contract states.
+#![tactic(auto)]
 
 ghost use Rattle.history.specs.Events.{Kinds};
 ghost use Rattle.one_answer.specs.Answers.{Answerable, OneAnswerLaw, OneRunLaw, SomeVerdictLaw};

@@ -1,4 +1,5 @@
 //! A list of orders of one kind, each asked for by its number.
+#![tactic(auto)]
 
 ghost use Rattle.std.specs.Prelude.{◌≡◌, ℕ, ◌<◌, ◌≤◌, true, List, [], ◌∷◌, ◌++◌, length, Decides};
 ghost use Rattle.auction.specs.Bounds.{most_orders, most_kwh};

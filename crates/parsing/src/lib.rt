@@ -1,4 +1,5 @@
 //! From a letter and the numbers that follow it to the command that they mean.
+#![tactic(auto)]
 
 mod layouts;
 mod rows;

@@ -1,4 +1,5 @@
 //! Piles of layers over networks, and what they answer.
+#![tactic(auto)]
 
 #[cfg(test)]
 mod tests {

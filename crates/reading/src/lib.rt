@@ -1,4 +1,5 @@
 //! The commands of a stream, one after the other, each with its place.
+#![tactic(auto)]
 
 ghost use Rattle.reading.specs.Next.{Next};
 

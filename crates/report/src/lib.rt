@@ -1,4 +1,5 @@
 //! What the program says of each command: that it was taken, or why and where it was refused.
+#![tactic(auto)]
 
 ghost use Rattle.std.specs.Prelude.{◌≡◌, IfOk, string_bytes};
 ghost use Rattle.stream.specs.Faults.{offset_of, shown_letter, refused_as};

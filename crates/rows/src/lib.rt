@@ -1,4 +1,5 @@
 //! The numbers of orders in rows, as every list of orders with a price, a quantity and at most two zones keeps them.
+#![tactic(auto)]
 
 mod changes;
 mod ranges;

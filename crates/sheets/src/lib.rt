@@ -1,4 +1,5 @@
 //! A house's sheet: the quantities, lambda and shadow prices that it proposes for an hour.
+#![tactic(auto)]
 
 mod fills;
 mod reads;

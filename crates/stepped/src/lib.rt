@@ -1,4 +1,5 @@
 //! A fourth kind of order, whose worth is not proportional to its quantity: the list and all that asks it know nothing of that.
+#![tactic(auto)]
 
 mod steps;
 

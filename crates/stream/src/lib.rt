@@ -1,4 +1,5 @@
 //! The stream of commands: how each is spelled (see specs/), and a reader that cuts it into items.
+#![tactic(auto)]
 
 mod commands;
 mod faults;

@@ -1,4 +1,5 @@
 //! Readable text on the standard input becomes a stream on the standard output.
+#![tactic(auto)]
 
 use anyhow::anyhow;
 use notation::{TextFault, reason, to_bytes};

@@ -1,4 +1,5 @@
 //! A stream on the standard input becomes readable text on the standard output.
+#![tactic(auto)]
 
 use notation::to_text;
 use std::io::{Read, Write};

@@ -1,4 +1,5 @@
 //! A network that is a tree of zones: each zone but 0 hangs on a zone with a smaller number.
+#![tactic(auto)]
 
 mod grown;
 mod growth;

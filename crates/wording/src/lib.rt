@@ -1,4 +1,5 @@
 //! A command in readable text.
+#![tactic(auto)]
 
 ghost use Rattle.std.specs.Prelude.{◌≡◌, [], ◌∷◌, ◌++◌, pos, IfOk, string_bytes, decimal, OnOk};
 ghost use Rattle.std.specs.Fmt.{signed_decimal};

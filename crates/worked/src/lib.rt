@@ -1,4 +1,5 @@
 //! Small hours worked out by hand: their verdicts follow from the rules.
+#![tactic(auto)]
 
 ghost use Rattle.worked.specs.Settled.{SettledRun};
 ghost use Rattle.worked.specs.Table.{WorkedCases};
