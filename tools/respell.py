@@ -48,6 +48,9 @@ def declared(path):
         m = re.match(r"(?:abbrev |unfoldable |pub )*([^\s:(){};,.]+)(?: *\{[^{}]*\})* : ", one)
         if m and m[1] not in ("use", "open", "let"):
             yield m[1]
+        if re.match(r"(?:pub )?module\b", one):
+            for f in re.finditer(r"(?m)^ +(?:abbrev |unfoldable |pub )*([^\s:(){};,.]+)(?: \{[^\n]*\})? :\s", item):
+                yield f[1]
 
 
 def snake(name):

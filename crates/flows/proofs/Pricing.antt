@@ -25,14 +25,14 @@ pub record PricedBefore (g : Grid) (p : Prices) (i : ℕ) (prices : List ℤ) : 
   pub full : length prices ≡ 24
 
 module _ (g : Grid) (p : Prices) where
-  pub priced-start : PricedBefore g p 0 (replicate 24 (pos 0))
-  priced-start = record { inside = λ z h. absurd (none z h); in_range = λ z h. absurd (none z h); outside = λ z h. zeros 24 z; full = refl }
+  pub priced_start : PricedBefore g p 0 (replicate 24 (pos 0))
+  priced_start = record { inside = λ z h. absurd (none z h); in_range = λ z h. absurd (none z h); outside = λ z h. zeros 24 z; full = refl }
     where
       none : (z : ℕ) → z < 0 → ⊥
       none z h = omega arith
 
-  pub priced-next : (i : ℕ) (prices : List ℤ) (v : ℤ) → PricedBefore g p i prices → i < 24 → v ≡ zone_price g p i → ZonePriceInRange (zone_price g p i) → PricedBefore g p (i + 1) (set prices i v)
-  priced-next i prices v so_far h is ranged = record {
+  pub priced_next : (i : ℕ) (prices : List ℤ) (v : ℤ) → PricedBefore g p i prices → i < 24 → v ≡ zone_price g p i → ZonePriceInRange (zone_price g p i) → PricedBefore g p (i + 1) (set prices i v)
+  priced_next i prices v so_far h is ranged = record {
     inside = λ z l. at_set (λ x. x ≡ zone_price g p z) prices i z v place (λ e. is ∙ ap (zone_price g p) (sym e)) (λ ne. so_far.inside z (less z i l ne));
     in_range = λ z l. ⊎_elim (λ e. subst (λ (k : ℕ). ZonePriceInRange (zone_price g p k)) (sym e) ranged) (λ ne. so_far.in_range z (less z i l ne)) (cases_eq z i);
     outside = λ z l. at_set (λ x. x ≡ pos 0) prices i z v place (λ e. absurd (beyond z i l e)) (λ ne. so_far.outside z (omega arith));
@@ -48,6 +48,6 @@ module _ (g : Grid) (p : Prices) where
       beyond : (z i : ℕ) → i + 1 ≤ z → z ≡ i → ⊥
       beyond z i l e = omega arith
 
-  pub priced-all : (i : ℕ) (prices : List ℤ) → PricedBefore g p i prices → i ≡ g.zones → Priced g p (Ok prices)
-  priced-all i prices so_far all =
+  pub priced_all : (i : ℕ) (prices : List ℤ) → PricedBefore g p i prices → i ≡ g.zones → Priced g p (Ok prices)
+  priced_all i prices so_far all =
       ((λ z l. so_far.in_range z (omega arith)), λ z. ⊎_elim (λ l. so_far.inside z (omega arith)) (λ l. so_far.outside z (omega arith) ∙ sym (price_outside g p z l)) (cases_lt z g.zones))

@@ -83,23 +83,23 @@ module _ {P Q R : Type 0} (k : Kinds P Q R) (g : Grid) (house : House) (s : Situ
   abbrev Enters : List Entry → List Entry → List Entry → Wish P Q R → Type 0
   Enters x' y' z' meant = Handled k g house (Enter (house_number house) meant) (with_book s (three x y z)) a (with_book s (three x' y' z'))
 
-  pub entered-first : (w : P) → wish ≡ First w → elsewhere ≡ standing_kwh y + standing_kwh z → (x' : List Entry)
+  pub entered_first : (w : P) → wish ≡ First w → elsewhere ≡ standing_kwh y + standing_kwh z → (x' : List Entry)
       → ListEntered (k.exists (First w) zones) (k.ranged (First w)) house (k.order (First w)) elsewhere x a x' → Enters x' y z wish
-  entered-first w is e x' done = subst (Enters x' y z) (sym is) (record {
+  entered_first w is e x' done = subst (Enters x' y z) (sym is) (record {
     answered = place_asked k g house (house_number house) (First w) (with_book s (three x y z)) zones elsewhere a zs (omega (arith, e, all_of_three x y z)) done.answered;
     next = first_after k g (house_number house) w s x y z x' a done.next;
   })
 
-  pub entered-second : (w : Q) → wish ≡ Second w → elsewhere ≡ standing_kwh x + standing_kwh z → (y' : List Entry)
+  pub entered_second : (w : Q) → wish ≡ Second w → elsewhere ≡ standing_kwh x + standing_kwh z → (y' : List Entry)
       → ListEntered (k.exists (Second w) zones) (k.ranged (Second w)) house (k.order (Second w)) elsewhere y a y' → Enters x y' z wish
-  entered-second w is e y' done = subst (Enters x y' z) (sym is) (record {
+  entered_second w is e y' done = subst (Enters x y' z) (sym is) (record {
     answered = place_asked k g house (house_number house) (Second w) (with_book s (three x y z)) zones elsewhere a zs (omega (arith, e, all_of_three x y z)) done.answered;
     next = second_after k g (house_number house) w s x y z y' a done.next;
   })
 
-  pub entered-third : (w : R) → wish ≡ Third w → elsewhere ≡ standing_kwh x + standing_kwh y → (z' : List Entry)
+  pub entered_third : (w : R) → wish ≡ Third w → elsewhere ≡ standing_kwh x + standing_kwh y → (z' : List Entry)
       → ListEntered (k.exists (Third w) zones) (k.ranged (Third w)) house (k.order (Third w)) elsewhere z a z' → Enters x y z' wish
-  entered-third w is e z' done = subst (Enters x y z') (sym is) (record {
+  entered_third w is e z' done = subst (Enters x y z') (sym is) (record {
     answered = place_asked k g house (house_number house) (Third w) (with_book s (three x y z)) zones elsewhere a zs (omega (arith, e, all_of_three x y z)) done.answered;
     next = third_after k g (house_number house) w s x y z z' a done.next;
   })
@@ -123,14 +123,14 @@ module _ {P Q R : Type 0} (k : Kinds P Q R) (g : Grid) (house : House) (s : Situ
   abbrev Withdraws : List Entry → List Entry → List Entry → ℕ → Type 0
   Withdraws x' y' z' l = Handled k g house (Withdraw (house_number house) l number) (with_book s (three x y z)) a (with_book s (three x' y' z'))
 
-  pub withdrawn-first : (x' : List Entry) → list ≡ 0 → ListWithdrawn house number x a x' → Withdraws x' y z list
-  withdrawn-first x' is done = subst (Withdraws x' y z) (sym is) (record { answered = done.answered; next = one_of_three k g (house_number house) 0 number s x y z x' y z a done.next (same_either a y) (same_either a z) })
+  pub withdrawn_first : (x' : List Entry) → list ≡ 0 → ListWithdrawn house number x a x' → Withdraws x' y z list
+  withdrawn_first x' is done = subst (Withdraws x' y z) (sym is) (record { answered = done.answered; next = one_of_three k g (house_number house) 0 number s x y z x' y z a done.next (same_either a y) (same_either a z) })
 
-  pub withdrawn-second : (y' : List Entry) → list ≡ 1 → ListWithdrawn house number y a y' → Withdraws x y' z list
-  withdrawn-second y' is done = subst (Withdraws x y' z) (sym is) (record { answered = done.answered; next = one_of_three k g (house_number house) 1 number s x y z x y' z a (same_either a x) done.next (same_either a z) })
+  pub withdrawn_second : (y' : List Entry) → list ≡ 1 → ListWithdrawn house number y a y' → Withdraws x y' z list
+  withdrawn_second y' is done = subst (Withdraws x y' z) (sym is) (record { answered = done.answered; next = one_of_three k g (house_number house) 1 number s x y z x y' z a (same_either a x) done.next (same_either a z) })
 
-  pub withdrawn-third : (z' : List Entry) → list ≡ 2 → ListWithdrawn house number z a z' → Withdraws x y z' list
-  withdrawn-third z' is done = subst (Withdraws x y z') (sym is) (record { answered = done.answered; next = one_of_three k g (house_number house) 2 number s x y z x y z' a (same_either a x) (same_either a y) done.next })
+  pub withdrawn_third : (z' : List Entry) → list ≡ 2 → ListWithdrawn house number z a z' → Withdraws x y z' list
+  withdrawn_third z' is done = subst (Withdraws x y z') (sym is) (record { answered = done.answered; next = one_of_three k g (house_number house) 2 number s x y z x y z' a (same_either a x) (same_either a y) done.next })
 
 -- there are only three lists
 no_fourth : (x y z : List Entry) (list number : ℕ) → (list ≡ 0 → ⊥) → (list ≡ 1 → ⊥) → (list ≡ 2 → ⊥) → number < length (list_at (three x y z) list) → ⊥

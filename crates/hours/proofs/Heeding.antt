@@ -16,8 +16,8 @@ use Rattle.hours.specs.Transcripts.{with_call}
 use Rattle.hours.specs.Answering.{AnswersOne}
 
 module _ {N X Y W : Type 0} (n : NetworkMeaning N) (x : ListMeaning X ZoneWish) (y : ListMeaning Y ZoneWish) (w : ListMeaning W TransferWish) (command : Command) (b : ClearingBox N X Y W) where
-  pub makes-call : (b' : ClearingBox N X Y W) (a : Answer) (c : StreamCall) → Some c ≡ call_of command → ComesOut n x y w c b a b' → AnswersOne n x y w command b a b'
-  makes-call b' a c is (same, out) = record {
+  pub makes_call : (b' : ClearingBox N X Y W) (a : Answer) (c : StreamCall) → Some c ≡ call_of command → ComesOut n x y w c b a b' → AnswersOne n x y w command b a b'
+  makes_call b' a c is (same, out) = record {
     same_network = same;
     not_now = λ none. let z : ◌≡◌ {A = ℕ} 0 1 = cc in absurd (omega arith);
     goes_on = λ h keeps. subst (λ o. Keeps (kinds_of x y w) (n.grid b.network) (with_call o a h) (situation x y w b')) is

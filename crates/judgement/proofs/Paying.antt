@@ -10,9 +10,9 @@ pub record Paid (prices : List ℤ) (o : Order) (q z : ℕ) (total : ℤ) : Type
   pub small : nat_abs total ≤ 2 ^ 31 * Σℕ z (λ y. nat_abs (o.injection q y))
 
 module _ (prices : List ℤ) (o : Order) (q : ℕ) where
-  pub paid-start : Paid prices o q 0 (pos 0)
+  pub paid_start : Paid prices o q 0 (pos 0)
   unfolding Σ
-  paid-start = record { is = refl; small = omega arith }
+  paid_start = record { is = refl; small = omega arith }
 
   step : (z : ℕ) (total price fed new : ℤ) → Paid prices o q z total → price ≡ get_or prices z (pos 0) → nat_abs price ≤ 2 ^ 31 → fed ≡ o.injection q z → new ≡ total +ℤ price *ℤ fed → Paid prices o q (suc z) new
   unfolding Σ Σℕ
@@ -29,11 +29,11 @@ module _ (prices : List ℤ) (o : Order) (q : ℕ) where
       grows : (x a : ℤ) (n m : ℕ) → nat_abs x ≤ 2 ^ 31 * n → nat_abs a ≤ 2 ^ 31 * m → nat_abs (x +ℤ a) ≤ 2 ^ 31 * (n + m)
       grows x a n m h r = omega (arith, ints)
 
-  pub paid-next : (z : ℕ) (total price fed pay new : ℤ) → Paid prices o q z total → pay ≡ price *ℤ fed → price ≡ get_or prices z (pos 0) → nat_abs price ≤ 2 ^ 31 → fed ≡ o.injection q z → new ≡ total +ℤ pay → Paid prices o q (z + 1) new
-  paid-next z total price fed pay new so_far pays is small there sum = subst (λ (n : ℕ). Paid prices o q n new) (sym (add-one z)) (step z total price fed new so_far is small there (sum ∙ ap (λ x. total +ℤ x) pays))
+  pub paid_next : (z : ℕ) (total price fed pay new : ℤ) → Paid prices o q z total → pay ≡ price *ℤ fed → price ≡ get_or prices z (pos 0) → nat_abs price ≤ 2 ^ 31 → fed ≡ o.injection q z → new ≡ total +ℤ pay → Paid prices o q (z + 1) new
+  paid_next z total price fed pay new so_far pays is small there sum = subst (λ (n : ℕ). Paid prices o q n new) (sym (add-one z)) (step z total price fed new so_far is small there (sum ∙ ap (λ x. total +ℤ x) pays))
 
-  pub paid-bound : (z : ℕ) (total : ℤ) → Paid prices o q z total → Sound o → Possible o q → nat_abs total ≤ 2 ^ 32 * q
-  paid-bound z total so_far sound may = let all = sound.injections_in_range q z may in let h = so_far.small in omega arith
+  pub paid_bound : (z : ℕ) (total : ℤ) → Paid prices o q z total → Sound o → Possible o q → nat_abs total ≤ 2 ^ 32 * q
+  paid_bound z total so_far sound may = let all = sound.injections_in_range q z may in let h = so_far.small in omega arith
 
 -- what is paid in one zone fits with room to spare
 pub one_zone_small : (pay price fed : ℤ) (q : ℕ) → pay ≡ price *ℤ fed → nat_abs price ≤ 2 ^ 31 → nat_abs fed ≤ 2 * q → q ≤ 10000000 → nat_abs pay ≤ 2 ^ 61

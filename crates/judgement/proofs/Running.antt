@@ -40,9 +40,9 @@ pub record Running (es : List Entry) (qs : ℕ → ℕ) (f : Entry → ℕ → �
   pub small : nat_abs total ≤ k * first_kwh es i
 
 module _ (es : List Entry) (qs : ℕ → ℕ) (f : Entry → ℕ → ℤ) (k : ℕ) where
-  pub running-start : Running es qs f k 0 (pos 0)
+  pub running_start : Running es qs f k 0 (pos 0)
   unfolding first_sum Σ
-  running-start = record { is = refl; small = omega arith }
+  running_start = record { is = refl; small = omega arith }
 
   step : (i : ℕ) (total term : ℤ) → Running es qs f k i total → Term es qs f k i term → qs i ≤ standing_largest (entry es i) → Running es qs f k (suc i) (total +ℤ term)
   unfolding first_sum first_kwh Σ Σℕ
@@ -55,9 +55,9 @@ module _ (es : List Entry) (qs : ℕ → ℕ) (f : Entry → ℕ → ℤ) (k : �
       grows x a n m q h r l = let e = mul-add k n m in let t : k * q ≤ k * m = mul-le-mul_left k l in omega (arith, ints)
 
   -- within a list whose standing orders are bounded, the running sum is bounded
-  pub running-bound : (i m : ℕ) (total : ℤ) → Running es qs f k i total → i ≤ length es → standing_kwh es ≤ m → nat_abs total ≤ k * m
+  pub running_bound : (i m : ℕ) (total : ℤ) → Running es qs f k i total → i ≤ length es → standing_kwh es ≤ m → nat_abs total ≤ k * m
   unfolding first_kwh standing_kwh
-  running-bound i m total so_far within modest =
+  running_bound i m total so_far within modest =
       let fewer : first_kwh es i ≤ standing_kwh es = subst (λ (n : ℕ). Σℕ i (λ n. standing_largest (entry es n)) ≤ Σℕ n (λ n. standing_largest (entry es n))) (rest i (length es) within) (Σℕ_mono (λ n. standing_largest (entry es n)) i (length es - i)) in
       let all : k * first_kwh es i ≤ k * m = mul-le-mul_left k (le_trans fewer modest) in
       omega arith
@@ -66,12 +66,12 @@ module _ (es : List Entry) (qs : ℕ → ℕ) (f : Entry → ℕ → ℤ) (k : �
       rest i n h = omega arith
 
   -- one turn of a loop, with the new total as the program has it
-  pub running-next : (i : ℕ) (total term new : ℤ) → Running es qs f k i total → Term es qs f k i term → Takes (entry es i) (qs i) → new ≡ total +ℤ term → Running es qs f k (i + 1) new
-  running-next i total term new so_far one takes sum =
+  pub running_next : (i : ℕ) (total term new : ℤ) → Running es qs f k i total → Term es qs f k i term → Takes (entry es i) (qs i) → new ≡ total +ℤ term → Running es qs f k (i + 1) new
+  running_next i total term new so_far one takes sum =
       subst (λ (n : ℕ). Running es qs f k n new) (sym (add-one i)) (subst (Running es qs f k (suc i)) (sym sum) (step i total term so_far one (counted_of_takes (entry es i) (qs i) takes)))
 
-  pub running-end : (i : ℕ) (total : ℤ) → Running es qs f k i total → i ≡ length es → total ≡ first_sum es qs f (length es)
-  running-end i total so_far all = so_far.is ∙ ap (first_sum es qs f) all
+  pub running_end : (i : ℕ) (total : ℤ) → Running es qs f k i total → i ≡ length es → total ≡ first_sum es qs f (length es)
+  running_end i total so_far all = so_far.is ∙ ap (first_sum es qs f) all
 
 -- a query's answer as a term: the order takes its quantity, so the answer is the one meant
 pub term_of : (es : List Entry) (qs : ℕ → ℕ) (f : Entry → ℕ → ℤ) (k n q : ℕ) (answer result : ℤ) → q ≡ qs n → Takes (entry es n) (qs n) → Answers (entry es n).order q (f (entry es n) q) answer → Sound (entry es n).order → (Possible (entry es n).order (qs n) → nat_abs (f (entry es n) (qs n)) ≤ k * qs n) → result ≡ answer → Term es qs f k n result

@@ -11,55 +11,55 @@ use Rattle.flows.specs.Firsts.{FirstFailing}
 use Rattle.flows.specs.Flows.{Priced, array_flow, array_total}
 use Rattle.places.specs.Places.{AtEase, FirstOrder, OfOrder}
 use Rattle.judgement.specs.Verdicts.{Nets, Ruled}
-use Rattle.judgement.proofs.Ties.{injections-tie, flow-tie, content-tie, content-back}
-use Rattle.judgement.proofs.Verdicts.{Met-below, quantities-met, quantity-first, balance-met, balance-first, flows-met, flow-first, zone-prices-met, zone-price-first, bindings-met, binding-first, contentment-first, all-met}
+use Rattle.judgement.proofs.Ties.{injections_tie, flow_tie, content_tie, content_back}
+use Rattle.judgement.proofs.Verdicts.{MetBelow, quantities_met, quantity_first, balance_met, balance_first, flows_met, flow_first, zone_prices_met, zone_price_first, bindings_met, binding_first, contentment_first, all_met}
 
 module _ (g : Grid) (b : Book) (d : Dispatch) (p : Prices) where
-  pub quantity-broken : (l n : ℕ) → FirstOrder (OfOrder b d Takes) (Some (l, n)) → FirstBroken g b d p (Quantity l n)
-  quantity-broken l n (lists, before, fails) = quantity-first g b d p l n lists before fails
+  pub quantity_broken : (l n : ℕ) → FirstOrder (OfOrder b d Takes) (Some (l, n)) → FirstBroken g b d p (Quantity l n)
+  quantity_broken l n (lists, before, fails) = quantity_first g b d p l n lists before fails
 
   module _ (few : g.zones ≤ 24) (nets : List ℤ) (found : Nets g.zones b d nets) (takes : FirstOrder (OfOrder b d Takes) None) where
-    pub balance-broken : (array_total nets ≡ pos 0 → ⊥) → FirstBroken g b d p Balance
+    pub balance_broken : (array_total nets ≡ pos 0 → ⊥) → FirstBroken g b d p Balance
     unfolding Balanced
-    balance-broken fails = balance-first g b d p (quantities-met g b d p takes) (λ met. fails (injections-tie g b d nets few found ∙ met))
+    balance_broken fails = balance_first g b d p (quantities_met g b d p takes) (λ met. fails (injections_tie g b d nets few found ∙ met))
 
     module _ (balanced : array_total nets ≡ pos 0) where
-      after-balance : Met-below g b d p 12
+      after_balance : MetBelow g b d p 12
       unfolding Balanced
-      after-balance = balance-met g b d p (quantities-met g b d p takes) (sym (injections-tie g b d nets few found) ∙ balanced)
+      after_balance = balance_met g b d p (quantities_met g b d p takes) (sym (injections_tie g b d nets few found) ∙ balanced)
 
       within : (l : ℕ) → WithinLimit (limit_at g l) (array_flow g nets l) → WithinLimit (limit_at g l) (flow_over g b d l)
-      within l h = subst (WithinLimit (limit_at g l)) (flow-tie g b d nets few found l) h
+      within l h = subst (WithinLimit (limit_at g l)) (flow_tie g b d nets few found l) h
 
-      pub flow-broken : (l : ℕ) → FirstFailing (λ k. WithinLimit (limit_at g k) (array_flow g nets k)) (line_count g) (Some l) → FirstBroken g b d p (Flow l)
-      flow-broken l (there, before, fails) = flow-first g b d p l after-balance (λ j h listed. within j (before j h)) (λ met. fails (subst (WithinLimit (limit_at g l)) (sym (flow-tie g b d nets few found l)) (met there)))
+      pub flow_broken : (l : ℕ) → FirstFailing (λ k. WithinLimit (limit_at g k) (array_flow g nets k)) (line_count g) (Some l) → FirstBroken g b d p (Flow l)
+      flow_broken l (there, before, fails) = flow_first g b d p l after_balance (λ j h listed. within j (before j h)) (λ met. fails (subst (WithinLimit (limit_at g l)) (sym (flow_tie g b d nets few found l)) (met there)))
 
       module _ (flows : FirstFailing (λ k. WithinLimit (limit_at g k) (array_flow g nets k)) (line_count g) None) where
-        after_flows : Met-below g b d p 13
-        after_flows = flows-met g b d p after-balance (λ l listed. within l (flows l listed))
+        after_flows : MetBelow g b d p 13
+        after_flows = flows_met g b d p after_balance (λ l listed. within l (flows l listed))
 
-        pub zone-price-broken : (z : ℕ) → Priced g p (Err z) → FirstBroken g b d p (ZonePrice z)
-        zone-price-broken z (there, before, fails) = zone-price-first g b d p z after_flows (λ j h listed. before j h) (λ met. fails (met there))
+        pub zone_price_broken : (z : ℕ) → Priced g p (Err z) → FirstBroken g b d p (ZonePrice z)
+        zone_price_broken z (there, before, fails) = zone_price_first g b d p z after_flows (λ j h listed. before j h) (λ met. fails (met there))
 
         module _ (prices : List ℤ) (priced : Priced g p (Ok prices)) where
-          after-prices : Met-below g b d p 14
-          after-prices = zone-prices-met g b d p after_flows priced.0
+          after_prices : MetBelow g b d p 14
+          after_prices = zone_prices_met g b d p after_flows priced.0
 
           bound : (l : ℕ) → Binds (limit_at g l) (p.shadow l) (array_flow g nets l) → Binds (limit_at g l) (p.shadow l) (flow_over g b d l)
-          bound l h = subst (Binds (limit_at g l) (p.shadow l)) (flow-tie g b d nets few found l) h
+          bound l h = subst (Binds (limit_at g l) (p.shadow l)) (flow_tie g b d nets few found l) h
 
-          pub binding-broken : (l : ℕ) → FirstFailing (λ k. Binds (limit_at g k) (p.shadow k) (array_flow g nets k)) (line_count g) (Some l) → FirstBroken g b d p (Binding l)
-          binding-broken l (there, before, fails) = binding-first g b d p l after-prices (λ j h listed. bound j (before j h)) (λ met. fails (subst (Binds (limit_at g l) (p.shadow l)) (sym (flow-tie g b d nets few found l)) (met there)))
+          pub binding_broken : (l : ℕ) → FirstFailing (λ k. Binds (limit_at g k) (p.shadow k) (array_flow g nets k)) (line_count g) (Some l) → FirstBroken g b d p (Binding l)
+          binding_broken l (there, before, fails) = binding_first g b d p l after_prices (λ j h listed. bound j (before j h)) (λ met. fails (subst (Binds (limit_at g l) (p.shadow l)) (sym (flow_tie g b d nets few found l)) (met there)))
 
           module _ (binding : FirstFailing (λ k. Binds (limit_at g k) (p.shadow k) (array_flow g nets k)) (line_count g) None) where
-            after-binding : Met-below g b d p 15
-            after-binding = bindings-met g b d p after-prices (λ l listed. bound l (binding l listed))
+            after_binding : MetBelow g b d p 15
+            after_binding = bindings_met g b d p after_prices (λ l listed. bound l (binding l listed))
 
             eased : (l n : ℕ) → OfOrder b d (AtEase (array_prices prices)) l n → Met g b d p (Contentment l n)
-            eased l n ease entered stands = content-tie g p prices few priced.1 _ _ (ease entered stands)
+            eased l n ease entered stands = content_tie g p prices few priced.1 _ _ (ease entered stands)
 
-            pub contentment-broken : (l n : ℕ) → FirstOrder (OfOrder b d (AtEase (array_prices prices))) (Some (l, n)) → FirstBroken g b d p (Contentment l n)
-            contentment-broken l n (lists, before, fails) = contentment-first g b d p l n after-binding (λ j m h. eased j m (lists j m h)) (λ m h. eased l m (before m h)) (λ met. fails (λ entered stands. content-back g p prices few priced.1 _ _ (met entered stands)))
+            pub contentment_broken : (l n : ℕ) → FirstOrder (OfOrder b d (AtEase (array_prices prices))) (Some (l, n)) → FirstBroken g b d p (Contentment l n)
+            contentment_broken l n (lists, before, fails) = contentment_first g b d p l n after_binding (λ j m h. eased j m (lists j m h)) (λ m h. eased l m (before m h)) (λ met. fails (λ entered stands. content_back g p prices few priced.1 _ _ (met entered stands)))
 
-            pub none-broken : FirstOrder (OfOrder b d (AtEase (array_prices prices))) None → Ruled g b d p (Ok prices)
-            none-broken eases = (all-met g b d p after-binding (λ l n. eased l n (eases l n)), priced.1)
+            pub none_broken : FirstOrder (OfOrder b d (AtEase (array_prices prices))) None → Ruled g b d p (Ok prices)
+            none_broken eases = (all_met g b d p after_binding (λ l n. eased l n (eases l n)), priced.1)

@@ -7,7 +7,7 @@ use Rattle.auction.specs.Orders.{Order, ZonePrices, Content, gain, proceeds}
 use Rattle.auction.specs.Hours.{Book, Dispatch, Entry, Prices, Balanced, net_injection, flow_over, zone_price, zone_prices, over_orders, amount_of, charge, entry_at}
 use Rattle.orders.specs.Reads.{array_prices}
 use Rattle.laws.proofs.Sums.{Σ_same}
-use Rattle.laws.proofs.Books.{orders-same}
+use Rattle.laws.proofs.Books.{orders_same}
 use Rattle.judgement.specs.Parts.{own_charge}
 use Rattle.flows.specs.Flows.{array_flow, array_total}
 use Rattle.judgement.specs.Verdicts.{Nets}
@@ -22,37 +22,37 @@ to_zones f h zones few beyond same = ap (λ n. Σ n f) (rest zones few) ∙ Σ_b
     rest zones few = omega arith
 
 module _ (g : Grid) (b : Book) (d : Dispatch) (nets : List ℤ) (few : g.zones ≤ 24) (found : Nets g.zones b d nets) where
-  pub injections-tie : array_total nets ≡ Σ g.zones (net_injection b d)
-  injections-tie = to_zones (λ z. get_or nets z (pos 0)) (net_injection b d) g.zones few found.outside found.inside
+  pub injections_tie : array_total nets ≡ Σ g.zones (net_injection b d)
+  injections_tie = to_zones (λ z. get_or nets z (pos 0)) (net_injection b d) g.zones few found.outside found.inside
 
-  pub flow-tie : (l : ℕ) → array_flow g nets l ≡ flow_over g b d l
+  pub flow_tie : (l : ℕ) → array_flow g nets l ≡ flow_over g b d l
   unfolding array_flow flow_over
-  flow-tie l = to_zones (λ z. sensitivity_at g l z *ℤ get_or nets z (pos 0)) (λ z. sensitivity_at g l z *ℤ net_injection b d z) g.zones few
+  flow_tie l = to_zones (λ z. sensitivity_at g l z *ℤ get_or nets z (pos 0)) (λ z. sensitivity_at g l z *ℤ net_injection b d z) g.zones few
       (λ z h. ap (λ x. sensitivity_at g l z *ℤ x) (found.outside z h) ∙ *ℤ-zero (sensitivity_at g l z))
       (λ z h. ap (λ x. sensitivity_at g l z *ℤ x) (found.inside z h))
 
 module _ (g : Grid) (p : Prices) (prices : List ℤ) (few : g.zones ≤ 24) (found : (z : ℕ) → get_or prices z (pos 0) ≡ zone_price g p z) where
-  pub proceeds-tie : (o : Order) (q : ℕ) → proceeds (array_prices prices) o q ≡ proceeds (zone_prices g p) o q
-  proceeds-tie o q = to_zones (λ z. get_or prices z (pos 0) *ℤ o.injection q z) (λ z. zone_price g p z *ℤ o.injection q z) g.zones few
+  pub proceeds_tie : (o : Order) (q : ℕ) → proceeds (array_prices prices) o q ≡ proceeds (zone_prices g p) o q
+  proceeds_tie o q = to_zones (λ z. get_or prices z (pos 0) *ℤ o.injection q z) (λ z. zone_price g p z *ℤ o.injection q z) g.zones few
       (λ z h. ap (λ x. x *ℤ o.injection q z) (found z ∙ price_outside g p z h) ∙ zero-*ℤ (o.injection q z))
       (λ z h. ap (λ x. x *ℤ o.injection q z) (found z))
 
-  gain-tie : (o : Order) (q : ℕ) → gain (array_prices prices) o q ≡ gain (zone_prices g p) o q
-  gain-tie o q = ap (λ x. pos 1000 *ℤ o.worth q +ℤ x) (proceeds-tie o q)
+  gain_tie : (o : Order) (q : ℕ) → gain (array_prices prices) o q ≡ gain (zone_prices g p) o q
+  gain_tie o q = ap (λ x. pos 1000 *ℤ o.worth q +ℤ x) (proceeds_tie o q)
 
-  pub content-tie : (o : Order) (q : ℕ) → Content (array_prices prices) o q → Content (zone_prices g p) o q
-  content-tie o q content = record {
+  pub content_tie : (o : Order) (q : ℕ) → Content (array_prices prices) o q → Content (zone_prices g p) o q
+  content_tie o q content = record {
     possible = content.possible;
-    best = λ other may. subst (λ (x : ℤ). x ≤ℤ gain (zone_prices g p) o q) (gain-tie o other) (subst (λ (x : ℤ). gain (array_prices prices) o other ≤ℤ x) (gain-tie o q) (content.best other may));
+    best = λ other may. subst (λ (x : ℤ). x ≤ℤ gain (zone_prices g p) o q) (gain_tie o other) (subst (λ (x : ℤ). gain (array_prices prices) o other ≤ℤ x) (gain_tie o q) (content.best other may));
   }
 
-  pub content-back : (o : Order) (q : ℕ) → Content (zone_prices g p) o q → Content (array_prices prices) o q
-  content-back o q content = record {
+  pub content_back : (o : Order) (q : ℕ) → Content (zone_prices g p) o q → Content (array_prices prices) o q
+  content_back o q content = record {
     possible = content.possible;
-    best = λ other may. subst (λ (x : ℤ). x ≤ℤ gain (array_prices prices) o q) (sym (gain-tie o other)) (subst (λ (x : ℤ). gain (zone_prices g p) o other ≤ℤ x) (sym (gain-tie o q)) (content.best other may));
+    best = λ other may. subst (λ (x : ℤ). x ≤ℤ gain (array_prices prices) o q) (sym (gain_tie o other)) (subst (λ (x : ℤ). gain (zone_prices g p) o other ≤ℤ x) (sym (gain_tie o q)) (content.best other may));
   }
 
-  pub amount-tie : (b : Book) (d : Dispatch) (house : ℕ) → over_orders b d (own_charge (array_prices prices) house) ≡ amount_of g b d p house
+  pub amount_tie : (b : Book) (d : Dispatch) (house : ℕ) → over_orders b d (own_charge (array_prices prices) house) ≡ amount_of g b d p house
   unfolding amount_of
-  amount-tie b d house = orders-same b d d (own_charge (array_prices prices) house) (λ e q. cond (eqb e.house house) (charge g p e q) (pos 0))
-      (λ l n entered. ap (λ x. cond (eqb (entry_at b l n).house house) (neg_ℤ x) (pos 0)) (proceeds-tie (entry_at b l n).order (d l n)))
+  amount_tie b d house = orders_same b d d (own_charge (array_prices prices) house) (λ e q. cond (eqb e.house house) (charge g p e q) (pos 0))
+      (λ l n entered. ap (λ x. cond (eqb (entry_at b l n).house house) (neg_ℤ x) (pos 0)) (proceeds_tie (entry_at b l n).order (d l n)))

@@ -68,13 +68,13 @@ none_before_0 a c e h = omega arith
 
 module _ (g : Grid) (b : Book) (d : Dispatch) (p : Prices) where
   -- all rules with a smaller number are met
-  abbrev pub Met-below : ℕ → Type 0
-  Met-below k = (y : Broken) → broken_number y < k → Met g b d p y
+  abbrev pub MetBelow : ℕ → Type 0
+  MetBelow k = (y : Broken) → broken_number y < k → Met g b d p y
 
   -- a rule that is put at each line, or at each zone
   module _ (mk : ℕ → Broken) (k : ℕ) (number : (i : ℕ) → broken_number (mk i) ≡ k) (first : (i : ℕ) → (broken_place (mk i)).0 ≡ i) (second : (i : ℕ) → (broken_place (mk i)).1 ≡ 0) (only : (y : Broken) → broken_number y ≡ k → (i : ℕ) × (y ≡ mk i)) where
-    first-along : (i : ℕ) → Met-below k → ((j : ℕ) → j < i → Met g b d p (mk j)) → (Met g b d p (mk i) → ⊥) → FirstBroken g b d p (mk i)
-    first-along i below before fails = record {
+    first_along : (i : ℕ) → MetBelow k → ((j : ℕ) → j < i → Met g b d p (mk j)) → (Met g b d p (mk i) → ⊥) → FirstBroken g b d p (mk i)
+    first_along i below before fails = record {
       broken = fails;
       rules_before = λ y h. below y (subst (λ (n : ℕ). broken_number y < n) (number i) h);
       places_before = λ y e h. along y (only y (e ∙ number i)) h;
@@ -84,85 +84,85 @@ module _ (g : Grid) (b : Book) (d : Dispatch) (p : Prices) where
         along : (y : Broken) → (j : ℕ) × (y ≡ mk j) → (broken_place y).0 < (broken_place (mk i)).0 → Met g b d p y
         along y found h = subst (Met g b d p) (sym found.1) (before found.0 (nearer i (broken_place y).0 (broken_place (mk i)).0 found.0 (ap (λ x. (broken_place x).0) found.1 ∙ first found.0) (first i) h))
 
-    met-along : Met-below k → ((j : ℕ) → Met g b d p (mk j)) → Met-below (k + 1)
-    met-along below all y h = ⊎_elim (λ e. here (only y e)) (below y) (at_or_below (broken_number y) k h)
+    met_along : MetBelow k → ((j : ℕ) → Met g b d p (mk j)) → MetBelow (k + 1)
+    met_along below all y h = ⊎_elim (λ e. here (only y e)) (below y) (at_or_below (broken_number y) k h)
       where
         here : (i : ℕ) × (y ≡ mk i) → Met g b d p y
         here found = subst (Met g b d p) (sym found.1) (all found.0)
 
   -- a rule that is put at each order of each list
   module _ (mk : ℕ → ℕ → Broken) (k : ℕ) (number : (l n : ℕ) → broken_number (mk l n) ≡ k) (first : (l n : ℕ) → (broken_place (mk l n)).0 ≡ l) (second : (l n : ℕ) → (broken_place (mk l n)).1 ≡ n) (only : (y : Broken) → broken_number y ≡ k → (l : ℕ) × (n : ℕ) × (y ≡ mk l n)) where
-    first_order : (l n : ℕ) → Met-below k → ((j m : ℕ) → j < l → Met g b d p (mk j m)) → ((m : ℕ) → m < n → Met g b d p (mk l m)) → (Met g b d p (mk l n) → ⊥) → FirstBroken g b d p (mk l n)
+    first_order : (l n : ℕ) → MetBelow k → ((j m : ℕ) → j < l → Met g b d p (mk j m)) → ((m : ℕ) → m < n → Met g b d p (mk l m)) → (Met g b d p (mk l n) → ⊥) → FirstBroken g b d p (mk l n)
     first_order l n below lists before fails = record {
       broken = fails;
       rules_before = λ y h. below y (subst (λ (m : ℕ). broken_number y < m) (number l n) h);
-      places_before = λ y e h. earlier-list y (only y (e ∙ number l n)) h;
-      there_before = λ y e f h. earlier-here y (only y (e ∙ number l n)) f h;
+      places_before = λ y e h. earlier_list y (only y (e ∙ number l n)) h;
+      there_before = λ y e f h. earlier_here y (only y (e ∙ number l n)) f h;
     }
       where
-        earlier-list : (y : Broken) → (j : ℕ) × (m : ℕ) × (y ≡ mk j m) → (broken_place y).0 < (broken_place (mk l n)).0 → Met g b d p y
-        earlier-list y found h = subst (Met g b d p) (sym found.2) (lists found.0 found.1 (nearer l (broken_place y).0 (broken_place (mk l n)).0 found.0 (ap (λ x. (broken_place x).0) found.2 ∙ first found.0 found.1) (first l n) h))
+        earlier_list : (y : Broken) → (j : ℕ) × (m : ℕ) × (y ≡ mk j m) → (broken_place y).0 < (broken_place (mk l n)).0 → Met g b d p y
+        earlier_list y found h = subst (Met g b d p) (sym found.2) (lists found.0 found.1 (nearer l (broken_place y).0 (broken_place (mk l n)).0 found.0 (ap (λ x. (broken_place x).0) found.2 ∙ first found.0 found.1) (first l n) h))
 
-        earlier-here : (y : Broken) → (j : ℕ) × (m : ℕ) × (y ≡ mk j m) → (broken_place y).0 ≡ (broken_place (mk l n)).0 → (broken_place y).1 < (broken_place (mk l n)).1 → Met g b d p y
-        earlier-here y found f h =
+        earlier_here : (y : Broken) → (j : ℕ) × (m : ℕ) × (y ≡ mk j m) → (broken_place y).0 ≡ (broken_place (mk l n)).0 → (broken_place y).1 < (broken_place (mk l n)).1 → Met g b d p y
+        earlier_here y found f h =
             let same : found.0 ≡ l = sym (ap (λ x. (broken_place x).0) found.2 ∙ first found.0 found.1) ∙ f ∙ first l n in
             subst (Met g b d p) (sym found.2) (subst (λ (j : ℕ). Met g b d p (mk j found.1)) (sym same) (before found.1 (nearer n (broken_place y).1 (broken_place (mk l n)).1 found.1 (ap (λ x. (broken_place x).1) found.2 ∙ second found.0 found.1) (second l n) h)))
 
-    met-orders : Met-below k → ((l n : ℕ) → Met g b d p (mk l n)) → Met-below (k + 1)
-    met-orders below all y h = ⊎_elim (λ e. here (only y e)) (below y) (at_or_below (broken_number y) k h)
+    met_orders : MetBelow k → ((l n : ℕ) → Met g b d p (mk l n)) → MetBelow (k + 1)
+    met_orders below all y h = ⊎_elim (λ e. here (only y e)) (below y) (at_or_below (broken_number y) k h)
       where
         here : (l : ℕ) × (n : ℕ) × (y ≡ mk l n) → Met g b d p y
         here found = subst (Met g b d p) (sym found.2) (all found.0 found.1)
 
   -- ---- the rules in their order
-  below-quantity : Met-below 10
-  below-quantity (Quantity l n) h = absurd (omega arith)
-  below-quantity Balance h = absurd (omega arith)
-  below-quantity (Flow l) h = absurd (omega arith)
-  below-quantity (ZonePrice z) h = absurd (omega arith)
-  below-quantity (Binding l) h = absurd (omega arith)
-  below-quantity (Contentment l n) h = absurd (omega arith)
+  below_quantity : MetBelow 10
+  below_quantity (Quantity l n) h = absurd (omega arith)
+  below_quantity Balance h = absurd (omega arith)
+  below_quantity (Flow l) h = absurd (omega arith)
+  below_quantity (ZonePrice z) h = absurd (omega arith)
+  below_quantity (Binding l) h = absurd (omega arith)
+  below_quantity (Contentment l n) h = absurd (omega arith)
 
-  pub quantities-met : ((l n : ℕ) → Met g b d p (Quantity l n)) → Met-below 11
-  quantities-met all = met-orders Quantity 10 (λ l n. refl) (λ l n. refl) (λ l n. refl) only_quantity below-quantity all
+  pub quantities_met : ((l n : ℕ) → Met g b d p (Quantity l n)) → MetBelow 11
+  quantities_met all = met_orders Quantity 10 (λ l n. refl) (λ l n. refl) (λ l n. refl) only_quantity below_quantity all
 
-  pub quantity-first : (l n : ℕ) → ((j m : ℕ) → j < l → Met g b d p (Quantity j m)) → ((m : ℕ) → m < n → Met g b d p (Quantity l m)) → (Met g b d p (Quantity l n) → ⊥) → FirstBroken g b d p (Quantity l n)
-  quantity-first l n = first_order Quantity 10 (λ l n. refl) (λ l n. refl) (λ l n. refl) only_quantity l n below-quantity
+  pub quantity_first : (l n : ℕ) → ((j m : ℕ) → j < l → Met g b d p (Quantity j m)) → ((m : ℕ) → m < n → Met g b d p (Quantity l m)) → (Met g b d p (Quantity l n) → ⊥) → FirstBroken g b d p (Quantity l n)
+  quantity_first l n = first_order Quantity 10 (λ l n. refl) (λ l n. refl) (λ l n. refl) only_quantity l n below_quantity
 
-  pub balance-met : Met-below 11 → Met g b d p Balance → Met-below 12
-  balance-met below met y h = ⊎_elim (λ e. subst (Met g b d p) (sym (only_balance y e)) met) (below y) (at_or_below (broken_number y) 11 h)
+  pub balance_met : MetBelow 11 → Met g b d p Balance → MetBelow 12
+  balance_met below met y h = ⊎_elim (λ e. subst (Met g b d p) (sym (only_balance y e)) met) (below y) (at_or_below (broken_number y) 11 h)
 
-  pub balance-first : Met-below 11 → (Met g b d p Balance → ⊥) → FirstBroken g b d p Balance
-  balance-first below fails = record {
+  pub balance_first : MetBelow 11 → (Met g b d p Balance → ⊥) → FirstBroken g b d p Balance
+  balance_first below fails = record {
     broken = fails;
     rules_before = below;
     places_before = λ y e h. absurd (none_before_0 (broken_place y).0 0 refl h);
     there_before = λ y e f h. absurd (none_before_0 (broken_place y).1 0 refl h);
   }
 
-  pub flows-met : Met-below 12 → ((l : ℕ) → Met g b d p (Flow l)) → Met-below 13
-  flows-met = met-along Flow 12 (λ i. refl) (λ i. refl) (λ i. refl) only_flow
+  pub flows_met : MetBelow 12 → ((l : ℕ) → Met g b d p (Flow l)) → MetBelow 13
+  flows_met = met_along Flow 12 (λ i. refl) (λ i. refl) (λ i. refl) only_flow
 
-  pub flow-first : (l : ℕ) → Met-below 12 → ((j : ℕ) → j < l → Met g b d p (Flow j)) → (Met g b d p (Flow l) → ⊥) → FirstBroken g b d p (Flow l)
-  flow-first = first-along Flow 12 (λ i. refl) (λ i. refl) (λ i. refl) only_flow
+  pub flow_first : (l : ℕ) → MetBelow 12 → ((j : ℕ) → j < l → Met g b d p (Flow j)) → (Met g b d p (Flow l) → ⊥) → FirstBroken g b d p (Flow l)
+  flow_first = first_along Flow 12 (λ i. refl) (λ i. refl) (λ i. refl) only_flow
 
-  pub zone-prices-met : Met-below 13 → ((z : ℕ) → Met g b d p (ZonePrice z)) → Met-below 14
-  zone-prices-met = met-along ZonePrice 13 (λ i. refl) (λ i. refl) (λ i. refl) only_zone_price
+  pub zone_prices_met : MetBelow 13 → ((z : ℕ) → Met g b d p (ZonePrice z)) → MetBelow 14
+  zone_prices_met = met_along ZonePrice 13 (λ i. refl) (λ i. refl) (λ i. refl) only_zone_price
 
-  pub zone-price-first : (z : ℕ) → Met-below 13 → ((j : ℕ) → j < z → Met g b d p (ZonePrice j)) → (Met g b d p (ZonePrice z) → ⊥) → FirstBroken g b d p (ZonePrice z)
-  zone-price-first = first-along ZonePrice 13 (λ i. refl) (λ i. refl) (λ i. refl) only_zone_price
+  pub zone_price_first : (z : ℕ) → MetBelow 13 → ((j : ℕ) → j < z → Met g b d p (ZonePrice j)) → (Met g b d p (ZonePrice z) → ⊥) → FirstBroken g b d p (ZonePrice z)
+  zone_price_first = first_along ZonePrice 13 (λ i. refl) (λ i. refl) (λ i. refl) only_zone_price
 
-  pub bindings-met : Met-below 14 → ((l : ℕ) → Met g b d p (Binding l)) → Met-below 15
-  bindings-met = met-along Binding 14 (λ i. refl) (λ i. refl) (λ i. refl) only_binding
+  pub bindings_met : MetBelow 14 → ((l : ℕ) → Met g b d p (Binding l)) → MetBelow 15
+  bindings_met = met_along Binding 14 (λ i. refl) (λ i. refl) (λ i. refl) only_binding
 
-  pub binding-first : (l : ℕ) → Met-below 14 → ((j : ℕ) → j < l → Met g b d p (Binding j)) → (Met g b d p (Binding l) → ⊥) → FirstBroken g b d p (Binding l)
-  binding-first = first-along Binding 14 (λ i. refl) (λ i. refl) (λ i. refl) only_binding
+  pub binding_first : (l : ℕ) → MetBelow 14 → ((j : ℕ) → j < l → Met g b d p (Binding j)) → (Met g b d p (Binding l) → ⊥) → FirstBroken g b d p (Binding l)
+  binding_first = first_along Binding 14 (λ i. refl) (λ i. refl) (λ i. refl) only_binding
 
-  pub contentment-first : (l n : ℕ) → Met-below 15 → ((j m : ℕ) → j < l → Met g b d p (Contentment j m)) → ((m : ℕ) → m < n → Met g b d p (Contentment l m)) → (Met g b d p (Contentment l n) → ⊥) → FirstBroken g b d p (Contentment l n)
-  contentment-first = first_order Contentment 15 (λ l n. refl) (λ l n. refl) (λ l n. refl) only_contentment
+  pub contentment_first : (l n : ℕ) → MetBelow 15 → ((j m : ℕ) → j < l → Met g b d p (Contentment j m)) → ((m : ℕ) → m < n → Met g b d p (Contentment l m)) → (Met g b d p (Contentment l n) → ⊥) → FirstBroken g b d p (Contentment l n)
+  contentment_first = first_order Contentment 15 (λ l n. refl) (λ l n. refl) (λ l n. refl) only_contentment
 
-  pub all-met : Met-below 15 → ((l n : ℕ) → Met g b d p (Contentment l n)) → Accepted g b d p
-  all-met below all y = met-orders Contentment 15 (λ l n. refl) (λ l n. refl) (λ l n. refl) only_contentment below all y (last y)
+  pub all_met : MetBelow 15 → ((l n : ℕ) → Met g b d p (Contentment l n)) → Accepted g b d p
+  all_met below all y = met_orders Contentment 15 (λ l n. refl) (λ l n. refl) (λ l n. refl) only_contentment below all y (last y)
     where
       last : (y : Broken) → broken_number y < 16
       last (Quantity l n) = omega arith

@@ -47,21 +47,21 @@ pub carried : (x y x' y' : ℤ) → x ≡ x' → y ≡ y' → x' ≤ℤ y' → x
 carried x y x' y' p q h = omega (arith, ints)
 
 module _ (r : ZonePrices) (o : Order) (s : ℤ) (linear : (q : ℕ) → gain r o q ≡ pos q *ℤ s) where
-  from-gains : (a b : ℕ) → gain r o a ≤ℤ gain r o b → (pos a *ℤ s) ≤ℤ (pos b *ℤ s)
-  from-gains a b h = carried (pos a *ℤ s) (pos b *ℤ s) (gain r o a) (gain r o b) (sym (linear a)) (sym (linear b)) h
+  from_gains : (a b : ℕ) → gain r o a ≤ℤ gain r o b → (pos a *ℤ s) ≤ℤ (pos b *ℤ s)
+  from_gains a b h = carried (pos a *ℤ s) (pos b *ℤ s) (gain r o a) (gain r o b) (sym (linear a)) (sym (linear b)) h
 
-  to-gains : (a b : ℕ) → (pos a *ℤ s) ≤ℤ (pos b *ℤ s) → gain r o a ≤ℤ gain r o b
-  to-gains a b h = carried (gain r o a) (gain r o b) (pos a *ℤ s) (pos b *ℤ s) (linear a) (linear b) h
+  to_gains : (a b : ℕ) → (pos a *ℤ s) ≤ℤ (pos b *ℤ s) → gain r o a ≤ℤ gain r o b
+  to_gains a b h = carried (gain r o a) (gain r o b) (pos a *ℤ s) (pos b *ℤ s) (linear a) (linear b) h
 
-  some-wants : (q : ℕ) → Content r o q → 0 < q → pos 0 ≤ℤ s
-  some-wants zero c h = absurd (omega arith)
-  some-wants (suc q) c h = up_from (pos q *ℤ s) (pos (suc q) *ℤ s) s (one_more q s) (from-gains q (suc q) (c.best q (omega (arith, c.possible))))
+  some_wants : (q : ℕ) → Content r o q → 0 < q → pos 0 ≤ℤ s
+  some_wants zero c h = absurd (omega arith)
+  some_wants (suc q) c h = up_from (pos q *ℤ s) (pos (suc q) *ℤ s) s (one_more q s) (from_gains q (suc q) (c.best q (omega (arith, c.possible))))
 
-  not-all-wants : (q : ℕ) → Content r o q → q < o.largest → s ≤ℤ pos 0
-  not-all-wants q c h = down_from (pos q *ℤ s) (pos (suc q) *ℤ s) s (one_more q s) (from-gains (suc q) q (c.best (suc q) (omega arith)))
+  not_all_wants : (q : ℕ) → Content r o q → q < o.largest → s ≤ℤ pos 0
+  not_all_wants q c h = down_from (pos q *ℤ s) (pos (suc q) *ℤ s) s (one_more q s) (from_gains (suc q) q (c.best (suc q) (omega arith)))
 
-  pub to-slope : (q : ℕ) → Content r o q → ContentBySlope o.largest q s
-  to-slope q c = record { possible = c.possible; rising = some-wants q c; falling = not-all-wants q c }
+  pub to_slope : (q : ℕ) → Content r o q → ContentBySlope o.largest q s
+  to_slope q c = record { possible = c.possible; rising = some_wants q c; falling = not_all_wants q c }
 
   best_of : (q : ℕ) → ContentBySlope o.largest q s → (other : ℕ) → Possible o other → (pos other *ℤ s) ≤ℤ (pos q *ℤ s)
   best_of q c other p = ⊎_elim
@@ -69,12 +69,12 @@ module _ (r : ZonePrices) (o : Order) (s : ℤ) (linear : (q : ℕ) → gain r o
       (⊎_elim (λ l. rising other q s (omega arith) (c.rising (omega arith))) (λ l. falling q other s (omega arith) (c.falling (omega arith))))
       (cases_order other q)
 
-  pub from-slope : (q : ℕ) → ContentBySlope o.largest q s → Content r o q
-  from-slope q c = record { possible = c.possible; best = λ other p. to-gains other q (best_of q c other p) }
+  pub from_slope : (q : ℕ) → ContentBySlope o.largest q s → Content r o q
+  from_slope q c = record { possible = c.possible; best = λ other p. to_gains other q (best_of q c other p) }
 
   -- a test of the slope, or of what equals it, is a test of contentment
-  pub content-by : (q : ℕ) (b : Bool) (t : ℤ) → Decides b (ContentBySlope o.largest q t) → t ≡ s → Decides b (Content r o q)
-  content-by q b t d e = (
-    λ h. from-slope q (subst (λ x. ContentBySlope o.largest q x) e (d.0 h)),
-    λ h. d.1 (subst (λ x. ContentBySlope o.largest q x) (sym e) (to-slope q h)),
+  pub content_by : (q : ℕ) (b : Bool) (t : ℤ) → Decides b (ContentBySlope o.largest q t) → t ≡ s → Decides b (Content r o q)
+  content_by q b t d e = (
+    λ h. from_slope q (subst (λ x. ContentBySlope o.largest q x) e (d.0 h)),
+    λ h. d.1 (subst (λ x. ContentBySlope o.largest q x) (sym e) (to_slope q h)),
   )

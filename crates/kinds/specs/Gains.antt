@@ -63,33 +63,33 @@ turned x y z h = omega (arith, ints)
 
 -- what a quantity is paid in one zone
 module _ (prices : List ℤ) (each : length prices ≡ 24) where
-  pub paid-in : (zone q : ℕ) → Σ 24 (λ z. price_in prices z *ℤ into zone q z) ≡ pos q *ℤ price_in prices zone
-  paid-in zone q = ⊎_elim
+  pub paid_in : (zone q : ℕ) → Σ 24 (λ z. price_in prices z *ℤ into zone q z) ≡ pos q *ℤ price_in prices zone
+  paid_in zone q = ⊎_elim
       (λ l. Σ_there 24 (price_in prices) zone q l ∙ *ℤ_comm (price_in prices zone) (pos q))
       (λ g. Σ_beyond 24 (price_in prices) zone q g ∙ sym (ap (λ x. pos q *ℤ x) (get_or_past prices zone (pos 0) (omega arith)) ∙ *ℤ-zero (pos q)))
       (cases_lt zone 24)
 
-  pub paid-out : (zone q : ℕ) → Σ 24 (λ z. price_in prices z *ℤ neg_ℤ (into zone q z)) ≡ neg_ℤ (pos q *ℤ price_in prices zone)
-  paid-out zone q =
+  pub paid_out : (zone q : ℕ) → Σ 24 (λ z. price_in prices z *ℤ neg_ℤ (into zone q z)) ≡ neg_ℤ (pos q *ℤ price_in prices zone)
+  paid_out zone q =
       Σ_same 24 (λ z. price_in prices z *ℤ neg_ℤ (into zone q z)) (λ z. neg_ℤ (price_in prices z *ℤ into zone q z)) (λ z _. mul_neg (price_in prices z) (into zone q z))
-      ∙ Σ_neg 24 (λ z. price_in prices z *ℤ into zone q z) ∙ ap neg_ℤ (paid-in zone q)
+      ∙ Σ_neg 24 (λ z. price_in prices z *ℤ into zone q z) ∙ ap neg_ℤ (paid_in zone q)
 
-  paid-between : (first second q : ℕ) → Σ 24 (λ z. price_in prices z *ℤ (into first q z -ℤ into second q z)) ≡ pos q *ℤ (price_in prices first -ℤ price_in prices second)
-  paid-between first second q =
+  paid_between : (first second q : ℕ) → Σ 24 (λ z. price_in prices z *ℤ (into first q z -ℤ into second q z)) ≡ pos q *ℤ (price_in prices first -ℤ price_in prices second)
+  paid_between first second q =
       Σ_same 24 (λ z. price_in prices z *ℤ (into first q z -ℤ into second q z)) (λ z. price_in prices z *ℤ into first q z +ℤ price_in prices z *ℤ neg_ℤ (into second q z)) (λ z _. distrib (price_in prices z) (into first q z) (neg_ℤ (into second q z)))
       ∙ Σ_plus 24 (λ z. price_in prices z *ℤ into first q z) (λ z. price_in prices z *ℤ neg_ℤ (into second q z))
-      ∙ difference (pos q) (price_in prices first) (price_in prices second) (Σ 24 (λ z. price_in prices z *ℤ into first q z)) (Σ 24 (λ z. price_in prices z *ℤ neg_ℤ (into second q z))) (paid-in first q) (paid-out second q)
+      ∙ difference (pos q) (price_in prices first) (price_in prices second) (Σ 24 (λ z. price_in prices z *ℤ into first q z)) (Σ 24 (λ z. price_in prices z *ℤ neg_ℤ (into second q z))) (paid_in first q) (paid_out second q)
 
-  pub offer-gain : (zone price largest q : ℕ) → gain (array_prices prices) (offer zone price largest) q ≡ pos q *ℤ offer_slope prices zone price
-  offer-gain zone price largest q = turned (pos 1000 *ℤ neg_ℤ (pos (price * q))) (Σ 24 (λ z. price_in prices z *ℤ into zone q z)) (pos q *ℤ offer_slope prices zone price)
-      (difference (pos q) (price_in prices zone) (scaled price) (Σ 24 (λ z. price_in prices z *ℤ into zone q z)) (pos 1000 *ℤ neg_ℤ (pos (price * q))) (paid-in zone q) (cost_scaled price q))
+  pub offer_gain : (zone price largest q : ℕ) → gain (array_prices prices) (offer zone price largest) q ≡ pos q *ℤ offer_slope prices zone price
+  offer_gain zone price largest q = turned (pos 1000 *ℤ neg_ℤ (pos (price * q))) (Σ 24 (λ z. price_in prices z *ℤ into zone q z)) (pos q *ℤ offer_slope prices zone price)
+      (difference (pos q) (price_in prices zone) (scaled price) (Σ 24 (λ z. price_in prices z *ℤ into zone q z)) (pos 1000 *ℤ neg_ℤ (pos (price * q))) (paid_in zone q) (cost_scaled price q))
 
-  pub bid-gain : (zone price largest q : ℕ) → gain (array_prices prices) (bid zone price largest) q ≡ pos q *ℤ bid_slope prices zone price
-  bid-gain zone price largest q = difference (pos q) (scaled price) (price_in prices zone) (pos 1000 *ℤ pos (price * q)) (Σ 24 (λ z. price_in prices z *ℤ neg_ℤ (into zone q z))) (worth_scaled price q) (paid-out zone q)
+  pub bid_gain : (zone price largest q : ℕ) → gain (array_prices prices) (bid zone price largest) q ≡ pos q *ℤ bid_slope prices zone price
+  bid_gain zone price largest q = difference (pos q) (scaled price) (price_in prices zone) (pos 1000 *ℤ pos (price * q)) (Σ 24 (λ z. price_in prices z *ℤ neg_ℤ (into zone q z))) (worth_scaled price q) (paid_out zone q)
 
-  pub transfer-gain : (first second price largest q : ℕ) → gain (array_prices prices) (transfer first second price largest) q ≡ pos q *ℤ transfer_slope prices first second price
-  transfer-gain first second price largest q =
-      joined (pos q) (scaled price) (price_in prices first -ℤ price_in prices second) (pos 1000 *ℤ pos (price * q)) (Σ 24 (λ z. price_in prices z *ℤ (into first q z -ℤ into second q z))) (worth_scaled price q) (paid-between first second q)
+  pub transfer_gain : (first second price largest q : ℕ) → gain (array_prices prices) (transfer first second price largest) q ≡ pos q *ℤ transfer_slope prices first second price
+  transfer_gain first second price largest q =
+      joined (pos q) (scaled price) (price_in prices first -ℤ price_in prices second) (pos 1000 *ℤ pos (price * q)) (Σ 24 (λ z. price_in prices z *ℤ (into first q z -ℤ into second q z))) (worth_scaled price q) (paid_between first second q)
     where
       joined : (q a b x y : ℤ) → x ≡ q *ℤ a → y ≡ q *ℤ b → x +ℤ y ≡ q *ℤ (a +ℤ b)
       joined q a b x y p e = both_sums p e ∙ sym (distrib q a b)

@@ -12,8 +12,8 @@ use Rattle.auction.specs.Rules.{Accepted, FirstBroken, Met}
 use Rattle.laws.specs.Laws.{OptimalityLaw, RentLaw, InterchangeLaw, OneVerdictLaw}
 use Rattle.laws.proofs.Limits.{binding_earns_most, binding_earns_rent, binding_shared}
 use Rattle.laws.proofs.Sums.{Σ_same, Σ_le, Σ_tight}
-use Rattle.laws.proofs.Books.{Each, orders-same, orders-plus, orders-neg, orders-le, orders-tight}
-use Rattle.laws.proofs.Money.{congestion, paid-is-congestion, gained}
+use Rattle.laws.proofs.Books.{Each, orders_same, orders_plus, orders_neg, orders_le, orders_tight}
+use Rattle.laws.proofs.Money.{congestion, paid_is_congestion, gained}
 
 -- what an accepted sheet's dispatch is
 pub feasible_of_accepted : (g : Grid) (b : Book) (d : Dispatch) (p : Prices) → Accepted g b d p → Feasible g b d
@@ -31,62 +31,62 @@ possible_if_standing : (e : Entry) (q : ℕ) → e.standing ≡ true → Takes e
 possible_if_standing e q stands takes = subst (λ (s : Bool). MatchBool s (Possible e.order q) (q ≡ 0)) stands takes
 
 module _ (g : Grid) (b : Book) (d : Dispatch) (p : Prices) (ok : Accepted g b d p) (rival : Dispatch) (feasible : Feasible g b rival) where
-  rival-gains-less : Each b (λ l n. gain (zone_prices g p) (entry_at b l n).order (rival l n) ≤ℤ gain (zone_prices g p) (entry_at b l n).order (d l n))
-  rival-gains-less l n entered = gain_at_most (zone_prices g p) (entry_at b l n).order (entry_at b l n).standing (d l n) (rival l n) (ok (Quantity l n) entered) (feasible.possible l n entered) (ok (Contentment l n) entered)
+  rival_gains_less : Each b (λ l n. gain (zone_prices g p) (entry_at b l n).order (rival l n) ≤ℤ gain (zone_prices g p) (entry_at b l n).order (d l n))
+  rival_gains_less l n entered = gain_at_most (zone_prices g p) (entry_at b l n).order (entry_at b l n).standing (d l n) (rival l n) (ok (Quantity l n) entered) (feasible.possible l n entered) (ok (Contentment l n) entered)
 
-  line-earns-less : (l : ℕ) → l < line_count g → (pos (p.shadow l) *ℤ flow_over g b rival l) ≤ℤ (pos (p.shadow l) *ℤ flow_over g b d l)
-  line-earns-less l listed = binding_earns_most (limit_at g l) (p.shadow l) (flow_over g b d l) (flow_over g b rival l) (ok (Binding l) listed) (feasible.within l listed)
+  line_earns_less : (l : ℕ) → l < line_count g → (pos (p.shadow l) *ℤ flow_over g b rival l) ≤ℤ (pos (p.shadow l) *ℤ flow_over g b d l)
+  line_earns_less l listed = binding_earns_most (limit_at g l) (p.shadow l) (flow_over g b d l) (flow_over g b rival l) (ok (Binding l) listed) (feasible.within l listed)
 
   -- the rival's flows earn no more at the sheet's shadow prices
-  rival-congestion : congestion g b rival p ≤ℤ congestion g b d p
+  rival_congestion : congestion g b rival p ≤ℤ congestion g b d p
   unfolding congestion
-  rival-congestion = Σ_le (line_count g) _ _ line-earns-less
+  rival_congestion = Σ_le (line_count g) _ _ line_earns_less
 
-  gains-compared : (pos 1000 *ℤ welfare_of b rival -ℤ congestion g b rival p) ≤ℤ (pos 1000 *ℤ welfare_of b d -ℤ congestion g b d p)
-  gains-compared =
+  gains_compared : (pos 1000 *ℤ welfare_of b rival -ℤ congestion g b rival p) ≤ℤ (pos 1000 *ℤ welfare_of b d -ℤ congestion g b d p)
+  gains_compared =
       subst (λ (x : ℤ). x ≤ℤ (pos 1000 *ℤ welfare_of b d -ℤ congestion g b d p)) (gained g b rival p feasible.balanced)
       (subst (λ (x : ℤ). over_orders b rival (λ e q. gain (zone_prices g p) e.order q) ≤ℤ x) (gained g b d p (ok Balance))
-      (orders-le b rival d (λ e q. gain (zone_prices g p) e.order q) rival-gains-less))
+      (orders_le b rival d (λ e q. gain (zone_prices g p) e.order q) rival_gains_less))
 
-  pub worth-at-most : welfare_of b rival ≤ℤ welfare_of b d
-  worth-at-most = less (welfare_of b rival) (welfare_of b d) (congestion g b rival p) (congestion g b d p) gains-compared rival-congestion
+  pub worth_at_most : welfare_of b rival ≤ℤ welfare_of b d
+  worth_at_most = less (welfare_of b rival) (welfare_of b d) (congestion g b rival p) (congestion g b d p) gains_compared rival_congestion
     where
       less : (w v c k : ℤ) → (pos 1000 *ℤ w -ℤ c) ≤ℤ (pos 1000 *ℤ v -ℤ k) → c ≤ℤ k → w ≤ℤ v
       less w v c k h m = omega (arith, ints)
 
   -- a rival that is worth as much is content at the sheet's prices, and its flows bind the same lines
   module _ (as-good : welfare_of b rival ≡ welfare_of b d) where
-    congestion-equal : (x y c k : ℤ) → x ≡ y → (pos 1000 *ℤ x -ℤ c) ≤ℤ (pos 1000 *ℤ y -ℤ k) → c ≤ℤ k → k ≤ℤ c
-    congestion-equal x y c k e h m = omega (arith, ints)
+    congestion_equal : (x y c k : ℤ) → x ≡ y → (pos 1000 *ℤ x -ℤ c) ≤ℤ (pos 1000 *ℤ y -ℤ k) → c ≤ℤ k → k ≤ℤ c
+    congestion_equal x y c k e h m = omega (arith, ints)
 
-    rival-earns-as-much : congestion g b d p ≤ℤ congestion g b rival p
-    rival-earns-as-much = congestion-equal (welfare_of b rival) (welfare_of b d) (congestion g b rival p) (congestion g b d p) as-good gains-compared rival-congestion
+    rival_earns_as_much : congestion g b d p ≤ℤ congestion g b rival p
+    rival_earns_as_much = congestion_equal (welfare_of b rival) (welfare_of b d) (congestion g b rival p) (congestion g b d p) as-good gains_compared rival_congestion
 
-    rival-earns-equal : (l : ℕ) → l < line_count g → pos (p.shadow l) *ℤ flow_over g b rival l ≡ pos (p.shadow l) *ℤ flow_over g b d l
+    rival_earns_equal : (l : ℕ) → l < line_count g → pos (p.shadow l) *ℤ flow_over g b rival l ≡ pos (p.shadow l) *ℤ flow_over g b d l
     unfolding congestion
-    rival-earns-equal = Σ_tight (line_count g) _ _ line-earns-less rival-earns-as-much
+    rival_earns_equal = Σ_tight (line_count g) _ _ line_earns_less rival_earns_as_much
 
-    pub rival-binds : (l : ℕ) → Met g b rival p (Binding l)
-    rival-binds l listed = binding_shared (limit_at g l) (p.shadow l) (flow_over g b d l) (flow_over g b rival l) (ok (Binding l) listed) (rival-earns-equal l listed)
+    pub rival_binds : (l : ℕ) → Met g b rival p (Binding l)
+    rival_binds l listed = binding_shared (limit_at g l) (p.shadow l) (flow_over g b d l) (flow_over g b rival l) (ok (Binding l) listed) (rival_earns_equal l listed)
 
-    gains-as-much : (x y c k : ℤ) → x ≡ y → c ≤ℤ k → (pos 1000 *ℤ y -ℤ k) ≤ℤ (pos 1000 *ℤ x -ℤ c)
-    gains-as-much x y c k e h = omega (arith, ints)
+    gains_as_much : (x y c k : ℤ) → x ≡ y → c ≤ℤ k → (pos 1000 *ℤ y -ℤ k) ≤ℤ (pos 1000 *ℤ x -ℤ c)
+    gains_as_much x y c k e h = omega (arith, ints)
 
-    rival-gains-equal : Each b (λ l n. gain (zone_prices g p) (entry_at b l n).order (rival l n) ≡ gain (zone_prices g p) (entry_at b l n).order (d l n))
-    rival-gains-equal =
-        orders-tight b rival d (λ e q. gain (zone_prices g p) e.order q) rival-gains-less
+    rival_gains_equal : Each b (λ l n. gain (zone_prices g p) (entry_at b l n).order (rival l n) ≡ gain (zone_prices g p) (entry_at b l n).order (d l n))
+    rival_gains_equal =
+        orders_tight b rival d (λ e q. gain (zone_prices g p) e.order q) rival_gains_less
         (subst (λ (x : ℤ). x ≤ℤ over_orders b rival (λ e q. gain (zone_prices g p) e.order q)) (sym (gained g b d p (ok Balance)))
         (subst (λ (x : ℤ). (pos 1000 *ℤ welfare_of b d -ℤ congestion g b d p) ≤ℤ x) (sym (gained g b rival p feasible.balanced))
-        (gains-as-much (welfare_of b rival) (welfare_of b d) (congestion g b rival p) (congestion g b d p) as-good rival-congestion)))
+        (gains_as_much (welfare_of b rival) (welfare_of b d) (congestion g b rival p) (congestion g b d p) as-good rival_congestion)))
 
-    pub rival-content : (l n : ℕ) → Met g b rival p (Contentment l n)
-    rival-content l n entered stands = record {
+    pub rival_content : (l n : ℕ) → Met g b rival p (Contentment l n)
+    rival_content l n entered stands = record {
       possible = possible_if_standing (entry_at b l n) (rival l n) stands (feasible.possible l n entered);
-      best = λ other may. subst (λ (x : ℤ). gain (zone_prices g p) (entry_at b l n).order other ≤ℤ x) (sym (rival-gains-equal l n entered)) ((ok (Contentment l n) entered stands).best other may);
+      best = λ other may. subst (λ (x : ℤ). gain (zone_prices g p) (entry_at b l n).order other ≤ℤ x) (sym (rival_gains_equal l n entered)) ((ok (Contentment l n) entered stands).best other may);
     }
 
 pub optimality : OptimalityLaw
-optimality = worth-at-most
+optimality = worth_at_most
 
 -- at binding lines the flows earn the congestion rent
 congestion_is_rent : (g : Grid) (b : Book) (d : Dispatch) (p : Prices) → Accepted g b d p → congestion g b d p ≡ exact_rent g p
@@ -105,10 +105,10 @@ one_has_it (suc (suc n)) x h = absurd (never n h)
 pub rent_law : RentLaw
 unfolding amount_of
 rent_law g b d p ok two =
-    sym (orders-plus b d (of 0) (of 1))
-    ∙ orders-same b d d (λ e q. of 0 e q +ℤ of 1 e q) (charge g p) (λ l n entered. one_has_it (entry_at b l n).house (charge g p (entry_at b l n) (d l n)) (two l n entered))
-    ∙ orders-neg b d (λ e q. proceeds (zone_prices g p) e.order q)
-    ∙ twice (over_orders b d (λ e q. proceeds (zone_prices g p) e.order q)) (congestion g b d p) (paid-is-congestion g b d p (ok Balance))
+    sym (orders_plus b d (of 0) (of 1))
+    ∙ orders_same b d d (λ e q. of 0 e q +ℤ of 1 e q) (charge g p) (λ l n entered. one_has_it (entry_at b l n).house (charge g p (entry_at b l n) (d l n)) (two l n entered))
+    ∙ orders_neg b d (λ e q. proceeds (zone_prices g p) e.order q)
+    ∙ twice (over_orders b d (λ e q. proceeds (zone_prices g p) e.order q)) (congestion g b d p) (paid_is_congestion g b d p (ok Balance))
     ∙ congestion_is_rent g b d p ok
   where
     of : ℕ → Entry → ℕ → ℤ
@@ -119,22 +119,22 @@ rent_law g b d p ok two =
 
 -- the quantities of one accepted sheet at the prices of another
 module _ (g : Grid) (b : Book) (d od : Dispatch) (p op : Prices) (ok : Accepted g b d p) (ook : Accepted g b od op) where
-  equal-welfare : welfare_of b d ≡ welfare_of b od
-  equal-welfare = both_ways (welfare_of b d) (welfare_of b od) (worth-at-most g b od op ook d (feasible_of_accepted g b d p ok)) (worth-at-most g b d p ok od (feasible_of_accepted g b od op ook))
+  equal_welfare : welfare_of b d ≡ welfare_of b od
+  equal_welfare = both_ways (welfare_of b d) (welfare_of b od) (worth_at_most g b od op ook d (feasible_of_accepted g b d p ok)) (worth_at_most g b d p ok od (feasible_of_accepted g b od op ook))
     where
       both_ways : (x y : ℤ) → x ≤ℤ y → y ≤ℤ x → x ≡ y
       both_ways x y h k = omega (arith, ints)
 
-  prices-exchanged : Accepted g b d op
-  prices-exchanged (Quantity l n) = ok (Quantity l n)
-  prices-exchanged Balance = ok Balance
-  prices-exchanged (Flow l) = ok (Flow l)
-  prices-exchanged (ZonePrice z) = ook (ZonePrice z)
-  prices-exchanged (Binding l) = rival-binds g b od op ook d (feasible_of_accepted g b d p ok) equal-welfare l
-  prices-exchanged (Contentment l n) = rival-content g b od op ook d (feasible_of_accepted g b d p ok) equal-welfare l n
+  prices_exchanged : Accepted g b d op
+  prices_exchanged (Quantity l n) = ok (Quantity l n)
+  prices_exchanged Balance = ok Balance
+  prices_exchanged (Flow l) = ok (Flow l)
+  prices_exchanged (ZonePrice z) = ook (ZonePrice z)
+  prices_exchanged (Binding l) = rival_binds g b od op ook d (feasible_of_accepted g b d p ok) equal_welfare l
+  prices_exchanged (Contentment l n) = rival_content g b od op ook d (feasible_of_accepted g b d p ok) equal_welfare l n
 
 pub interchange : InterchangeLaw
-interchange g b d od p op ok ook = (equal-welfare g b d od p op ok ook, prices-exchanged g b d od p op ok ook, prices-exchanged g b od d op p ook ok)
+interchange g b d od p op ok ook = (equal_welfare g b d od p op ok ook, prices_exchanged g b d od p op ok ook, prices_exchanged g b od d op p ook ok)
 
 -- a rule and place is told by its number and the two numbers of the place
 pub of_numbers : ℕ → ℕ → ℕ → Broken

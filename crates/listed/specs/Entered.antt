@@ -95,21 +95,21 @@ room_from_place m s rs elsewhere kWh place =
 
 -- what entering a row in range answers of the rows, it answers of the entries
 module _ (m : ByNumbers) (sized : Sized m) (before after : List Row) (house : House) (row : Row) (elsewhere : ℕ) (wished : Order) (own : row.house ≡ house) (ranged : Ranged row) (same : order_by m row ≡ wished) where
-  quantity-same : row.quantity ≡ wished.largest
-  quantity-same = sym (sized row.first row.second row.price row.quantity) ∙ ap (λ o. o.largest) same
+  quantity_same : row.quantity ≡ wished.largest
+  quantity_same = sym (sized row.first row.second row.price row.quantity) ∙ ap (λ o. o.largest) same
 
   longer : after ≡ before ++ entered row ∷ [] → map (entry_by m) after ≡ map (entry_by m) before ++ record { house = house_number house; standing = true; order = wished } ∷ []
   longer e =
       ap (map (entry_by m)) e ∙ map_push (entry_by m) before (entered row) ∙ ap (λ o. map (entry_by m) before ++ record { house = house_number row.house; standing = true; order = o } ∷ []) same
       ∙ ap (λ h. map (entry_by m) before ++ record { house = house_number h; standing = true; order = wished } ∷ []) own
 
-  pub answered-entries : (found fitting : Type 0) → found → fitting → (r : Result (Unit {0}) Fault)
+  pub answered_entries : (found fitting : Type 0) → found → fitting → (r : Result (Unit {0}) Fault)
       → Answered r Always (Ranged row) (Room before elsewhere row.quantity) (λ _. after ≡ before ++ entered row ∷ []) (after ≡ before)
       → Answered r found fitting (PlaceLeft (map (entry_by m) before) elsewhere wished.largest) (λ _. map (entry_by m) after ≡ map (entry_by m) before ++ record { house = house_number house; standing = true; order = wished } ∷ []) (map (entry_by m) after ≡ map (entry_by m) before)
-  answered-entries found fitting f k (Ok u) a = (f, k, subst (λ x. PlaceLeft (map (entry_by m) before) elsewhere x) quantity-same (place_from_room m sized before elsewhere row.quantity a.2), longer a.3)
-  answered-entries found fitting f k (Err Missing) a = absurd (a.0 tt)
-  answered-entries found fitting f k (Err OutOfRange) a = absurd (a.0.1 ranged)
-  answered-entries found fitting f k (Err NoPlace) a = ((f, k, λ place. a.0.2 (room_from_place m sized before elsewhere row.quantity (subst (λ x. PlaceLeft (map (entry_by m) before) elsewhere x) (sym quantity-same) place))), ap (map (entry_by m)) a.1)
+  answered_entries found fitting f k (Ok u) a = (f, k, subst (λ x. PlaceLeft (map (entry_by m) before) elsewhere x) quantity_same (place_from_room m sized before elsewhere row.quantity a.2), longer a.3)
+  answered_entries found fitting f k (Err Missing) a = absurd (a.0 tt)
+  answered_entries found fitting f k (Err OutOfRange) a = absurd (a.0.1 ranged)
+  answered_entries found fitting f k (Err NoPlace) a = ((f, k, λ place. a.0.2 (room_from_place m sized before elsewhere row.quantity (subst (λ x. PlaceLeft (map (entry_by m) before) elsewhere x) (sym quantity_same) place))), ap (map (entry_by m)) a.1)
 
 -- ---- an order that is asked for by its number
 -- a row that is read is that of an entry

@@ -22,7 +22,7 @@ use Rattle.history.specs.Situations.{Situation}
 use Rattle.history.specs.Right.{Ask, Done, Entered, OwnStanding, all_standing_kwh, Room, Fillable, Fitting, Verdict, Questions, Right}
 use Rattle.history.proofs.Asking.{right_one}
 use Rattle.one_answer.specs.Answers.{Answerable, OneRightAnswer}
-use Rattle.one_answer.proofs.Sheets.{accepted-or-broken}
+use Rattle.one_answer.proofs.Sheets.{accepted_or_broken}
 
 -- a question that can be answered leaves an answer where what is asked next does
 ask : {question : Type 0} {refusal : Refusal} {next : Answer → Type 0} → Dec question → (a : Answer) × next a → (a : Answer) × Ask question refusal next a
@@ -52,7 +52,7 @@ fitting (Lambda lambda) = dec_le (nat_abs lambda) most_lambda
 fitting (ShadowPrice _ price) = dec_le price most_shadow_price
 
 verdict : (g : Grid) (b : Book) (d : Dispatch) (p : Prices) → (a : Answer) × Verdict g b d p a
-verdict g b d p = told (accepted-or-broken g b d p)
+verdict g b d p = told (accepted_or_broken g b d p)
   where
     told : Accepted g b d p ⊎ ((x : Broken) × FirstBroken g b d p x) → (a : Answer) × Verdict g b d p a
     told (inl accepted) = (Ok (Says.Accepted (welfare_of b d) (rent_of g b d p)), inl (accepted, refl))
@@ -71,5 +71,5 @@ module _ {P Q R : Type 0} (k : Kinds P Q R) (answerable : Answerable k) (g : Gri
   right : (c : Call P Q R) → (a : Answer) × Right k g s c a
   right c = ask (dec_lt (caller_number c) 2) (ask (Bool-discrete (of_closed_hour c) s.closed) (questions (numbered (caller_number c)) c))
 
-  pub one-right-answer : (c : Call P Q R) → OneRightAnswer k g s c
-  one-right-answer c = let there = right c in (there.0, there.1, λ other also. right_one k g s c other there.0 also there.1)
+  pub one_right_answer : (c : Call P Q R) → OneRightAnswer k g s c
+  one_right_answer c = let there = right c in (there.0, there.1, λ other also. right_one k g s c other there.0 also there.1)

@@ -18,19 +18,19 @@ First Good Bad = (n : ℕ) × Bad n × ((k : ℕ) → k < n → Good k)
 
 -- where each number is good or bad, and all from an end on are good, all are, or there is a first bad one
 module _ {Good Bad : ℕ → Type 0} (each : (n : ℕ) → Good n ⊎ Bad n) where
-  search-below : (end : ℕ) → ((k : ℕ) → k < end → Good k) ⊎ First Good Bad
-  search-below zero = inl (λ k h. absurd (omega arith))
-  search-below (suc n) = ⊎_elim (λ before. ⊎_elim (λ good. inl (one_more before good)) (λ bad. inr (n, bad, before)) (each n)) inr (search-below n)
+  search_below : (end : ℕ) → ((k : ℕ) → k < end → Good k) ⊎ First Good Bad
+  search_below zero = inl (λ k h. absurd (omega arith))
+  search_below (suc n) = ⊎_elim (λ before. ⊎_elim (λ good. inl (one_more before good)) (λ bad. inr (n, bad, before)) (each n)) inr (search_below n)
     where
       one_more : ((k : ℕ) → k < n → Good k) → Good n → (k : ℕ) → k < suc n → Good k
       one_more before good k h = ⊎_elim (λ e. subst Good (sym e) good) (λ other. before k (omega arith)) (cases_eq k n)
 
-  pub search-all : (end : ℕ) → ((k : ℕ) → end ≤ k → Good k) → ((k : ℕ) → Good k) ⊎ First Good Bad
-  search-all end beyond = ⊎_elim (λ before. inl (λ k. ⊎_elim (before k) (beyond k) (cases_lt k end))) inr (search-below end)
+  pub search_all : (end : ℕ) → ((k : ℕ) → end ≤ k → Good k) → ((k : ℕ) → Good k) ⊎ First Good Bad
+  search_all end beyond = ⊎_elim (λ before. inl (λ k. ⊎_elim (before k) (beyond k) (cases_lt k end))) inr (search_below end)
 
 either : {X : Type 0} → Dec X → X ⊎ (X → ⊥)
 either (yes x) = inl x
 either (no never) = inr never
 
 pub every : {Good : ℕ → Type 0} → ((n : ℕ) → Dec (Good n)) → (end : ℕ) → ((k : ℕ) → end ≤ k → Good k) → Dec ((n : ℕ) → Good n)
-every each end beyond = ⊎_elim yes (λ found. no (λ all. found.1 (all found.0))) (search-all (λ n. either (each n)) end beyond)
+every each end beyond = ⊎_elim yes (λ found. no (λ all. found.1 (all found.0))) (search_all (λ n. either (each n)) end beyond)

@@ -17,7 +17,7 @@ use Rattle.auction.specs.Orders.{Order, Possible, ZonePrices, Content, gain}
 use Rattle.auction.specs.Hours.{Entry, Book, Dispatch, Prices, list_at, entry_at, Takes, Balanced, net_injection, flow_over, zone_price, zone_prices}
 use Rattle.auction.specs.Rules.{Met, Accepted, FirstBroken}
 use Rattle.laws.proofs.Laws.{of_numbers, told_by_numbers}
-use Rattle.one_answer.proofs.Deciding.{First, implies, at_most, every, search-all}
+use Rattle.one_answer.proofs.Deciding.{First, implies, at_most, every, search_all}
 
 takes : (e : Entry) (q : ℕ) → Dec (Takes e q)
 takes e q = by-standing e.standing
@@ -55,16 +55,16 @@ module _ (g : Grid) (b : Book) (d : Dispatch) (p : Prices) where
   met (Contentment l n) = implies (dec_lt n (length (list_at b l))) (implies (Bool-discrete (entry_at b l n).standing true) (content (zone_prices g p) (entry_at b l n).order (d l n)))
 
   -- Nothing is asked beyond the last rule, beyond the last list, line and zone, and beyond the last order of a list.
-  last-rule : (rule : Broken) → 16 ≤ broken_number rule → ⊥
-  last-rule (Quantity l n) h = omega arith
-  last-rule Balance h = omega arith
-  last-rule (Flow l) h = omega arith
-  last-rule (ZonePrice z) h = omega arith
-  last-rule (Binding l) h = omega arith
-  last-rule (Contentment l n) h = omega arith
+  last_rule : (rule : Broken) → 16 ≤ broken_number rule → ⊥
+  last_rule (Quantity l n) h = omega arith
+  last_rule Balance h = omega arith
+  last_rule (Flow l) h = omega arith
+  last_rule (ZonePrice z) h = omega arith
+  last_rule (Binding l) h = omega arith
+  last_rule (Contentment l n) h = omega arith
 
-  no-such-list : {X : Type 0} (l n : ℕ) → length b ≤ l → n < length (list_at b l) → X
-  no-such-list l n h entered = absurd (none (subst (λ es. n < length es) (get_or-eq_default b [] h) entered))
+  no_such_list : {X : Type 0} (l n : ℕ) → length b ≤ l → n < length (list_at b l) → X
+  no_such_list l n h entered = absurd (none (subst (λ es. n < length es) (get_or-eq_default b [] h) entered))
     where
       none : n < 0 → ⊥
       none h = omega arith
@@ -72,56 +72,56 @@ module _ (g : Grid) (b : Book) (d : Dispatch) (p : Prices) where
   end : ℕ
   end = suc (length b + line_count g + g.zones)
 
-  beyond-end : (rule : Broken) → end ≤ (broken_place rule).0 → Met g b d p rule
+  beyond_end : (rule : Broken) → end ≤ (broken_place rule).0 → Met g b d p rule
   unfolding end
-  beyond-end (Quantity l n) h = no-such-list l n (omega arith)
-  beyond-end Balance h = absurd (omega arith)
-  beyond-end (Flow l) h = λ listed. absurd (omega arith)
-  beyond-end (ZonePrice z) h = λ listed. absurd (omega arith)
-  beyond-end (Binding l) h = λ listed. absurd (omega arith)
-  beyond-end (Contentment l n) h = no-such-list l n (omega arith)
+  beyond_end (Quantity l n) h = no_such_list l n (omega arith)
+  beyond_end Balance h = absurd (omega arith)
+  beyond_end (Flow l) h = λ listed. absurd (omega arith)
+  beyond_end (ZonePrice z) h = λ listed. absurd (omega arith)
+  beyond_end (Binding l) h = λ listed. absurd (omega arith)
+  beyond_end (Contentment l n) h = no_such_list l n (omega arith)
 
-  beyond-list : (rule : Broken) → suc (length (list_at b (broken_place rule).0)) ≤ (broken_place rule).1 → Met g b d p rule
-  beyond-list (Quantity l n) h = λ entered. absurd (omega arith)
-  beyond-list Balance h = absurd (omega arith)
-  beyond-list (Flow l) h = absurd (omega arith)
-  beyond-list (ZonePrice z) h = absurd (omega arith)
-  beyond-list (Binding l) h = absurd (omega arith)
-  beyond-list (Contentment l n) h = λ entered. absurd (omega arith)
+  beyond_list : (rule : Broken) → suc (length (list_at b (broken_place rule).0)) ≤ (broken_place rule).1 → Met g b d p rule
+  beyond_list (Quantity l n) h = λ entered. absurd (omega arith)
+  beyond_list Balance h = absurd (omega arith)
+  beyond_list (Flow l) h = absurd (omega arith)
+  beyond_list (ZonePrice z) h = absurd (omega arith)
+  beyond_list (Binding l) h = absurd (omega arith)
+  beyond_list (Contentment l n) h = λ entered. absurd (omega arith)
 
   -- The search goes by the number of the rule, within a rule by the first number of the place, and there by the second.
-  abbrev Met-there : ℕ → ℕ → ℕ → Type 0
-  Met-there r i j = (y : Broken) → Named r i j y → Met g b d p y
+  abbrev MetThere : ℕ → ℕ → ℕ → Type 0
+  MetThere r i j = (y : Broken) → Named r i j y → Met g b d p y
 
-  abbrev Broken-there : ℕ → ℕ → ℕ → Type 0
-  Broken-there r i j = (x : Broken) × Named r i j x × (Met g b d p x → ⊥)
+  abbrev BrokenThere : ℕ → ℕ → ℕ → Type 0
+  BrokenThere r i j = (x : Broken) × Named r i j x × (Met g b d p x → ⊥)
 
-  there : (r i j : ℕ) → Met-there r i j ⊎ Broken-there r i j
+  there : (r i j : ℕ) → MetThere r i j ⊎ BrokenThere r i j
   there r i j = by_cases (met x) (λ holds. inl (λ y is. subst (Met g b d p) (sym (only r i j y is)) holds)) (λ broken. by_cases (named r i j x) (λ is. inr (x, is, broken)) (λ not. inl (λ y is. absurd (not (subst (Named r i j) (only r i j y is) is)))))
     where
       x : Broken
       x = of_numbers r i j
 
-  abbrev Met-along : ℕ → ℕ → Type 0
-  Met-along r i = (y : Broken) → broken_number y ≡ r → (broken_place y).0 ≡ i → Met g b d p y
+  abbrev MetAlong : ℕ → ℕ → Type 0
+  MetAlong r i = (y : Broken) → broken_number y ≡ r → (broken_place y).0 ≡ i → Met g b d p y
 
-  abbrev First-along : ℕ → ℕ → Type 0
-  First-along r i = First (Met-there r i) (Broken-there r i)
+  abbrev FirstAlong : ℕ → ℕ → Type 0
+  FirstAlong r i = First (MetThere r i) (BrokenThere r i)
 
-  along : (r i : ℕ) → Met-along r i ⊎ First-along r i
-  along r i = ⊎_elim (λ all. inl (λ y e f. all (broken_place y).1 y (e, (f, refl)))) inr (search-all (there r i) (suc (length (list_at b i))) (λ j h y is. beyond-list y (subst₂ (λ (m n : ℕ). suc (length (list_at b m)) ≤ n) (sym is.1.0) (sym is.1.1) h)))
+  along : (r i : ℕ) → MetAlong r i ⊎ FirstAlong r i
+  along r i = ⊎_elim (λ all. inl (λ y e f. all (broken_place y).1 y (e, (f, refl)))) inr (search_all (there r i) (suc (length (list_at b i))) (λ j h y is. beyond_list y (subst₂ (λ (m n : ℕ). suc (length (list_at b m)) ≤ n) (sym is.1.0) (sym is.1.1) h)))
 
-  abbrev Met-rule : ℕ → Type 0
-  Met-rule r = (y : Broken) → broken_number y ≡ r → Met g b d p y
+  abbrev MetRule : ℕ → Type 0
+  MetRule r = (y : Broken) → broken_number y ≡ r → Met g b d p y
 
-  abbrev First-of-rule : ℕ → Type 0
-  First-of-rule r = First (Met-along r) (First-along r)
+  abbrev FirstOfRule : ℕ → Type 0
+  FirstOfRule r = First (MetAlong r) (FirstAlong r)
 
-  of-rule : (r : ℕ) → Met-rule r ⊎ First-of-rule r
-  of-rule r = ⊎_elim (λ all. inl (λ y e. all (broken_place y).0 y e refl)) inr (search-all (along r) end (λ i h y e f. beyond-end y (subst (λ (n : ℕ). end ≤ n) (sym f) h)))
+  of_rule : (r : ℕ) → MetRule r ⊎ FirstOfRule r
+  of_rule r = ⊎_elim (λ all. inl (λ y e. all (broken_place y).0 y e refl)) inr (search_all (along r) end (λ i h y e f. beyond_end y (subst (λ (n : ℕ). end ≤ n) (sym f) h)))
 
-  first-broken : First Met-rule First-of-rule → (x : Broken) × FirstBroken g b d p x
-  first-broken (r, (i, (j, (x, (e, (f, h)), broken), here), places), rules) = (
+  first_broken : First MetRule FirstOfRule → (x : Broken) × FirstBroken g b d p x
+  first_broken (r, (i, (j, (x, (e, (f, h)), broken), here), places), rules) = (
     x,
     record {
       broken = broken;
@@ -131,5 +131,5 @@ module _ (g : Grid) (b : Book) (d : Dispatch) (p : Prices) where
     },
   )
 
-  pub accepted-or-broken : Accepted g b d p ⊎ ((x : Broken) × FirstBroken g b d p x)
-  accepted-or-broken = ⊎_elim (λ all. inl (λ y. all (broken_number y) y refl)) (λ found. inr (first-broken found)) (search-all of-rule 16 (λ r h y e. absurd (last-rule y (subst (λ (n : ℕ). 16 ≤ n) (sym e) h))))
+  pub accepted_or_broken : Accepted g b d p ⊎ ((x : Broken) × FirstBroken g b d p x)
+  accepted_or_broken = ⊎_elim (λ all. inl (λ y. all (broken_number y) y refl)) (λ found. inr (first_broken found)) (search_all of_rule 16 (λ r h y e. absurd (last_rule y (subst (λ (n : ℕ). 16 ≤ n) (sym e) h))))

@@ -9,26 +9,26 @@ module _ (x y z : List Entry) (d : Dispatch) (Q : Entry → ℕ → Type 0) wher
   none_left : (n : ℕ) → n < 0 → ⊥
   none_left n h = omega arith
 
-  pub in-first : (n : ℕ) → FirstFailing (λ k. Q (entry x k) (d 0 k)) (length x) (Some n) → FirstOrder (OfOrder (book_of x y z) d Q) (Some (0, n))
-  in-first n (there, before, fails) = ((λ l m h. absurd (none_left l h)), (λ m h entered. before m h), λ met. fails (met there))
+  pub in_first : (n : ℕ) → FirstFailing (λ k. Q (entry x k) (d 0 k)) (length x) (Some n) → FirstOrder (OfOrder (book_of x y z) d Q) (Some (0, n))
+  in_first n (there, before, fails) = ((λ l m h. absurd (none_left l h)), (λ m h entered. before m h), λ met. fails (met there))
 
-  pub in-second : (n : ℕ) → FirstFailing (λ k. Q (entry x k) (d 0 k)) (length x) None → FirstFailing (λ k. Q (entry y k) (d 1 k)) (length y) (Some n) → FirstOrder (OfOrder (book_of x y z) d Q) (Some (1, n))
-  in-second n firsts (there, before, fails) = (earlier, (λ m h entered. before m h), λ met. fails (met there))
+  pub in_second : (n : ℕ) → FirstFailing (λ k. Q (entry x k) (d 0 k)) (length x) None → FirstFailing (λ k. Q (entry y k) (d 1 k)) (length y) (Some n) → FirstOrder (OfOrder (book_of x y z) d Q) (Some (1, n))
+  in_second n firsts (there, before, fails) = (earlier, (λ m h entered. before m h), λ met. fails (met there))
     where
       earlier : (l m : ℕ) → l < 1 → OfOrder (book_of x y z) d Q l m
       earlier zero m h = firsts m
       earlier (suc l) m h = absurd (omega arith)
 
-  pub in-third : (n : ℕ) → FirstFailing (λ k. Q (entry x k) (d 0 k)) (length x) None → FirstFailing (λ k. Q (entry y k) (d 1 k)) (length y) None → FirstFailing (λ k. Q (entry z k) (d 2 k)) (length z) (Some n) → FirstOrder (OfOrder (book_of x y z) d Q) (Some (2, n))
-  in-third n firsts seconds (there, before, fails) = (earlier, (λ m h entered. before m h), λ met. fails (met there))
+  pub in_third : (n : ℕ) → FirstFailing (λ k. Q (entry x k) (d 0 k)) (length x) None → FirstFailing (λ k. Q (entry y k) (d 1 k)) (length y) None → FirstFailing (λ k. Q (entry z k) (d 2 k)) (length z) (Some n) → FirstOrder (OfOrder (book_of x y z) d Q) (Some (2, n))
+  in_third n firsts seconds (there, before, fails) = (earlier, (λ m h entered. before m h), λ met. fails (met there))
     where
       earlier : (l m : ℕ) → l < 2 → OfOrder (book_of x y z) d Q l m
       earlier zero m h = firsts m
       earlier (suc zero) m h = seconds m
       earlier (suc (suc l)) m h = absurd (omega arith)
 
-  pub in-none : FirstFailing (λ k. Q (entry x k) (d 0 k)) (length x) None → FirstFailing (λ k. Q (entry y k) (d 1 k)) (length y) None → FirstFailing (λ k. Q (entry z k) (d 2 k)) (length z) None → FirstOrder (OfOrder (book_of x y z) d Q) None
-  in-none firsts seconds thirds zero m = firsts m
-  in-none firsts seconds thirds (suc zero) m = seconds m
-  in-none firsts seconds thirds (suc (suc zero)) m = thirds m
-  in-none firsts seconds thirds (suc (suc (suc l))) m = λ h. absurd (none_left m h)
+  pub in_none : FirstFailing (λ k. Q (entry x k) (d 0 k)) (length x) None → FirstFailing (λ k. Q (entry y k) (d 1 k)) (length y) None → FirstFailing (λ k. Q (entry z k) (d 2 k)) (length z) None → FirstOrder (OfOrder (book_of x y z) d Q) None
+  in_none firsts seconds thirds zero m = firsts m
+  in_none firsts seconds thirds (suc zero) m = seconds m
+  in_none firsts seconds thirds (suc (suc zero)) m = thirds m
+  in_none firsts seconds thirds (suc (suc (suc l))) m = λ h. absurd (none_left m h)

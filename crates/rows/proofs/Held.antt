@@ -67,15 +67,15 @@ kwh_left c rs n d h k t =
 -- ---- what holds of each row in use
 module _ (P : Row → Type 0) (c : ℕ) (rs : List Row) (all : (k : ℕ) → k < c → P (get_or rs k no_row)) where
   -- where one takes the place of another
-  pub all-replaced : (n : ℕ) (x : Row) → n < length rs → P x → (k : ℕ) → k < c → P (get_or (set rs n x) k no_row)
-  all-replaced n x l h k below = ⊎_elim
+  pub all_replaced : (n : ℕ) (x : Row) → n < length rs → P x → (k : ℕ) → k < c → P (get_or (set rs n x) k no_row)
+  all_replaced n x l h k below = ⊎_elim
       (λ e. subst (λ i. P (get_or (set rs n x) i no_row)) (sym e) (subst P (sym (get_or-set_same rs n x no_row l)) h))
       (λ ne. subst P (sym (get_or-set_other rs n k x no_row ne)) (all k below))
       (cases_eq k n)
 
   -- where one is entered behind them
   pub all_more : (x : Row) → c < length rs → P x → (k : ℕ) → k < c + 1 → P (get_or (set rs c x) k no_row)
-  all_more x l h = below_more (λ k. P (get_or (set rs c x) k no_row)) c (all-replaced c x l h) (subst P (sym (get_or-set_same rs c x no_row l)) h)
+  all_more x l h = below_more (λ k. P (get_or (set rs c x) k no_row)) c (all_replaced c x l h) (subst P (sym (get_or-set_same rs c x no_row l)) h)
 
 -- the numbers of each row in use are in range
 pub in_range_used : (t : Rows) (k : ℕ) → k < length (used t) → Ranged (get_or (used t) k no_row)

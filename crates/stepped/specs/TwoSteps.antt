@@ -11,7 +11,7 @@ use Rattle.laws.proofs.Ring.{distrib}
 use Rattle.kinds.specs.Kinds.{into}
 use Rattle.kinds.specs.Slopes.{price_in, scaled}
 use Rattle.kinds.proofs.Slopes.{one_more, up_from, down_from, added, rising, falling, level, carried}
-use Rattle.kinds.specs.Gains.{mul_neg, paid-out, into_elsewhere}
+use Rattle.kinds.specs.Gains.{mul_neg, paid_out, into_elsewhere}
 use Rattle.kinds.specs.Sounds.{size, Σℕ_into, Σℕ_under, neg_size, nothing, at_most}
 use Rattle.stepped.specs.Steps.{in_steps, stepped, ContentInSteps}
 
@@ -47,32 +47,32 @@ module _ (r : ZonePrices) (o : Order) (step : ℕ) (high low : ℤ) (within : st
       (sym (in_two a ∙ ap (λ n. gained high low n (a - step)) p ∙ ap (λ n. gained high low x n) q))
       (sym (in_two b ∙ ap (λ n. gained high low n (b - step)) p' ∙ ap (λ n. gained high low x' n) q')) h
 
-  more-wanted : (q : ℕ) → Content r o q → step < q → pos 0 ≤ℤ low
-  more-wanted zero c h = absurd (omega arith)
-  more-wanted (suc q) c h = up_right (pos step *ℤ high) (pos (q - step) *ℤ low) (pos (suc (q - step)) *ℤ low) low (one_more (q - step) low)
+  more_wanted : (q : ℕ) → Content r o q → step < q → pos 0 ≤ℤ low
+  more_wanted zero c h = absurd (omega arith)
+  more_wanted (suc q) c h = up_right (pos step *ℤ high) (pos (q - step) *ℤ low) (pos (suc (q - step)) *ℤ low) low (one_more (q - step) low)
       (compared q (suc q) step (q - step) step (suc (q - step)) (omega arith) refl (omega arith) (omega arith) (c.best q (omega (arith, c.possible))))
 
-  some-wanted : (q : ℕ) → Content r o q → 0 < q → pos 0 ≤ℤ high
-  some-wanted zero c h = absurd (omega arith)
-  some-wanted (suc q) c h = ⊎_elim
+  some_wanted : (q : ℕ) → Content r o q → 0 < q → pos 0 ≤ℤ high
+  some_wanted zero c h = absurd (omega arith)
+  some_wanted (suc q) c h = ⊎_elim
       (λ l. up_left (pos q *ℤ high) (pos (suc q) *ℤ high) (pos 0 *ℤ low) high (one_more q high)
       (compared q (suc q) q 0 (suc q) 0 (omega arith) (omega arith) (omega arith) (omega arith) (c.best q (omega (arith, c.possible)))))
-      (λ g. above high low lower (more-wanted (suc q) c (omega arith)))
+      (λ g. above high low lower (more_wanted (suc q) c (omega arith)))
       (cases_lt q step)
 
-  few-wanted : (q : ℕ) → Content r o q → q < step → high ≤ℤ pos 0
-  few-wanted q c h = down_left (pos q *ℤ high) (pos (suc q) *ℤ high) (pos 0 *ℤ low) high (one_more q high)
+  few_wanted : (q : ℕ) → Content r o q → q < step → high ≤ℤ pos 0
+  few_wanted q c h = down_left (pos q *ℤ high) (pos (suc q) *ℤ high) (pos 0 *ℤ low) high (one_more q high)
       (compared (suc q) q (suc q) 0 q 0 (omega arith) (omega arith) (omega arith) (omega arith) (c.best (suc q) (omega arith)))
 
-  not-all-wanted : (q : ℕ) → Content r o q → q < o.largest → low ≤ℤ pos 0
-  not-all-wanted q c h = ⊎_elim
-      (λ l. below high low lower (few-wanted q c l))
+  not_all_wanted : (q : ℕ) → Content r o q → q < o.largest → low ≤ℤ pos 0
+  not_all_wanted q c h = ⊎_elim
+      (λ l. below high low lower (few_wanted q c l))
       (λ g. down_right (pos step *ℤ high) (pos (q - step) *ℤ low) (pos (suc (q - step)) *ℤ low) low (one_more (q - step) low)
       (compared (suc q) q step (suc (q - step)) step (q - step) (omega arith) (omega arith) (omega arith) refl (c.best (suc q) (omega arith))))
       (cases_lt q step)
 
-  to-steps : (q : ℕ) → Content r o q → ContentInSteps step o.largest q high low
-  to-steps q c = record { possible = c.possible; some = some-wanted q c; more = more-wanted q c; few = few-wanted q c; not_all = not-all-wanted q c }
+  to_steps : (q : ℕ) → Content r o q → ContentInSteps step o.largest q high low
+  to_steps q c = record { possible = c.possible; some = some_wanted q c; more = more_wanted q c; few = few_wanted q c; not_all = not_all_wanted q c }
 
   same_rest : (a b : ℕ) → a - step ≡ b - step → (pos (a - step) *ℤ low) ≤ℤ (pos (b - step) *ℤ low)
   same_rest a b e = level (pos (a - step) *ℤ low) (pos (b - step) *ℤ low) (ap (λ n. pos n *ℤ low) e)
@@ -80,29 +80,29 @@ module _ (r : ZonePrices) (o : Order) (step : ℕ) (high low : ℤ) (within : st
   same_first : (a b : ℕ) → min a step ≡ min b step → (pos (min a step) *ℤ high) ≤ℤ (pos (min b step) *ℤ high)
   same_first a b e = level (pos (min a step) *ℤ high) (pos (min b step) *ℤ high) (ap (λ n. pos n *ℤ high) e)
 
-  best-below : (q other : ℕ) → ContentInSteps step o.largest q high low → other < q → gained high low (min other step) (other - step) ≤ℤ gained high low (min q step) (q - step)
-  best-below q other c l = both (pos (min other step) *ℤ high) (pos (other - step) *ℤ low) (pos (min q step) *ℤ high) (pos (q - step) *ℤ low)
+  best_below : (q other : ℕ) → ContentInSteps step o.largest q high low → other < q → gained high low (min other step) (other - step) ≤ℤ gained high low (min q step) (q - step)
+  best_below q other c l = both (pos (min other step) *ℤ high) (pos (other - step) *ℤ low) (pos (min q step) *ℤ high) (pos (q - step) *ℤ low)
       (rising (min other step) (min q step) high (omega arith) (c.some (omega arith)))
       (⊎_elim (λ s. rising (other - step) (q - step) low (omega arith) (c.more s)) (λ s. same_rest other q (omega arith)) (cases_lt step q))
 
-  best-above : (q other : ℕ) → ContentInSteps step o.largest q high low → other ≤ o.largest → q < other → gained high low (min other step) (other - step) ≤ℤ gained high low (min q step) (q - step)
-  best-above q other c p l = both (pos (min other step) *ℤ high) (pos (other - step) *ℤ low) (pos (min q step) *ℤ high) (pos (q - step) *ℤ low)
+  best_above : (q other : ℕ) → ContentInSteps step o.largest q high low → other ≤ o.largest → q < other → gained high low (min other step) (other - step) ≤ℤ gained high low (min q step) (q - step)
+  best_above q other c p l = both (pos (min other step) *ℤ high) (pos (other - step) *ℤ low) (pos (min q step) *ℤ high) (pos (q - step) *ℤ low)
       (⊎_elim (λ s. falling (min q step) (min other step) high (omega arith) (c.few s)) (λ s. same_first other q (omega arith)) (cases_lt q step))
       (falling (q - step) (other - step) low (omega arith) (c.not_all (omega arith)))
 
-  from-steps : (q : ℕ) → ContentInSteps step o.largest q high low → Content r o q
-  from-steps q c = record {
+  from_steps : (q : ℕ) → ContentInSteps step o.largest q high low → Content r o q
+  from_steps q c = record {
     possible = c.possible;
     best = λ other p. carried (gain r o other) (gain r o q) (gained high low (min other step) (other - step)) (gained high low (min q step) (q - step)) (in_two other) (in_two q)
         (⊎_elim (λ e. level (gained high low (min other step) (other - step)) (gained high low (min q step) (q - step)) (ap (λ n. gained high low (min n step) (n - step)) e))
-        (⊎_elim (best-below q other c) (best-above q other c p)) (cases_order other q));
+        (⊎_elim (best_below q other c) (best_above q other c p)) (cases_order other q));
   }
 
-  pub content-by-steps : (q : ℕ) (b : Bool) (h l : ℤ) → Decides b (ContentInSteps step o.largest q h l) → h ≡ high → l ≡ low → Decides b (Content r o q)
-  content-by-steps q b h l d e f =
+  pub content_by_steps : (q : ℕ) (b : Bool) (h l : ℤ) → Decides b (ContentInSteps step o.largest q h l) → h ≡ high → l ≡ low → Decides b (Content r o q)
+  content_by_steps q b h l d e f =
       let there : ContentInSteps step o.largest q h l → ContentInSteps step o.largest q high low = λ x. subst (λ y. ContentInSteps step o.largest q high y) f (subst (λ y. ContentInSteps step o.largest q y l) e x) in
       let back : ContentInSteps step o.largest q high low → ContentInSteps step o.largest q h l = λ x. subst (λ y. ContentInSteps step o.largest q y l) (sym e) (subst (λ y. ContentInSteps step o.largest q high y) (sym f) x) in
-      (λ t. from-steps q (there (d.0 t)), λ c. d.1 (back (to-steps q c)))
+      (λ t. from_steps q (there (d.0 t)), λ c. d.1 (back (to_steps q c)))
 
 -- ---- the gain of a bid in two steps
 parts : (q step : ℕ) → min q step + (q - step) ≡ q
@@ -133,7 +133,7 @@ steps_gain prices each zone price largest q =
     let p : ℤ = price_in prices zone in
     sorted (pos 1000 *ℤ pos (in_steps (largest / 2) price (price / 2) q)) (Σ 24 (λ z. price_in prices z *ℤ neg_ℤ (into zone q z)))
     (pos x *ℤ scaled price) (pos y *ℤ scaled (price / 2)) (pos x *ℤ p) (pos y *ℤ p) (pos x *ℤ (scaled price -ℤ p)) (pos y *ℤ (scaled (price / 2) -ℤ p))
-    (worth_parts x y price (price / 2)) (paid-out prices each zone q ∙ ap neg_ℤ (paid_parts q x y p (parts q (largest / 2)))) (less_paid x (scaled price) p) (less_paid y (scaled (price / 2)) p)
+    (worth_parts x y price (price / 2)) (paid_out prices each zone q ∙ ap neg_ℤ (paid_parts q x y p (parts q (largest / 2)))) (less_paid x (scaled price) p) (less_paid y (scaled (price / 2)) p)
 
 pub lower_step : (price : ℕ) (p : ℤ) → (scaled (price / 2) -ℤ p) ≤ℤ (scaled price -ℤ p)
 lower_step price p = let h : 1000 * (price / 2) ≤ 1000 * price = omega arith in moved (scaled (price / 2)) (scaled price) p (less-scaled (1000 * (price / 2)) (1000 * price) h)

@@ -38,28 +38,28 @@ module _ {P Q R : Type 0} (k : Kinds P Q R) (g : Grid) (house : House) (x y z : 
   abbrev Judges : Result Found.Verdict Refusal → Type 0
   Judges r = Spent g (x ∷ y ∷ z ∷ []) (dispatches s house) (prices_by s house) p r p'
 
-  pub own-sheet : (sheet : Sheet) → sheet ≡ sheet_of s house → (r : Result Found.Verdict Refusal) → Spent g (x ∷ y ∷ z ∷ []) (dispatch_of sheet) (prices_of sheet) p r p' → Judges r
-  own-sheet sheet is r found = subst (λ t. Spent g (x ∷ y ∷ z ∷ []) (dispatch_of t) (prices_of t) p r p') is found
+  pub own_sheet : (sheet : Sheet) → sheet ≡ sheet_of s house → (r : Result Found.Verdict Refusal) → Spent g (x ∷ y ∷ z ∷ []) (dispatch_of sheet) (prices_of sheet) p r p' → Judges r
+  own_sheet sheet is r found = subst (λ t. Spent g (x ∷ y ∷ z ∷ []) (dispatch_of t) (prices_of t) p r p') is found
 
-  pub tried-so : (v : Found.Verdict) (welfare rent : ℤ) → welfare ≡ v.welfare → rent ≡ v.rent → Judges (Ok v) → Handled k g house (Try (house_number house)) (situation_of x y z s p) (Ok (Accepted welfare rent)) (situation_of x y z s p')
-  tried-so v welfare rent ew er (left, found, e) = record { answered = inl (left, accepted_answer g (x ∷ y ∷ z ∷ []) (dispatches s house) (prices_by s house) v welfare rent ew er found); next = ap (situation_of x y z s) e }
+  pub tried_so : (v : Found.Verdict) (welfare rent : ℤ) → welfare ≡ v.welfare → rent ≡ v.rent → Judges (Ok v) → Handled k g house (Try (house_number house)) (situation_of x y z s p) (Ok (Accepted welfare rent)) (situation_of x y z s p')
+  tried_so v welfare rent ew er (left, found, e) = record { answered = inl (left, accepted_answer g (x ∷ y ∷ z ∷ []) (dispatches s house) (prices_by s house) v welfare rent ew er found); next = ap (situation_of x y z s) e }
 
   -- a refused try, and a refused settle, at most use up a try
-  try-refused : (refusal : Refusal) → Judges (Err refusal) → Handled k g house (Try (house_number house)) (situation_of x y z s p) (Err refusal) (situation_of x y z s p')
-  try-refused refusal (inl (none, is, e)) = subst (λ r. Handled k g house (Try (house_number house)) (situation_of x y z s p) (Err r) (situation_of x y z s p')) (sym is) (record { answered = inr (none, refl); next = ap (situation_of x y z s) e })
-  try-refused refusal (inr (b, left, found, is, e)) = subst (λ r. Handled k g house (Try (house_number house)) (situation_of x y z s p) (Err r) (situation_of x y z s p')) (sym is) (record { answered = inl (left, broken_answer g (x ∷ y ∷ z ∷ []) (dispatches s house) (prices_by s house) b found); next = ap (situation_of x y z s) e })
+  try_refused : (refusal : Refusal) → Judges (Err refusal) → Handled k g house (Try (house_number house)) (situation_of x y z s p) (Err refusal) (situation_of x y z s p')
+  try_refused refusal (inl (none, is, e)) = subst (λ r. Handled k g house (Try (house_number house)) (situation_of x y z s p) (Err r) (situation_of x y z s p')) (sym is) (record { answered = inr (none, refl); next = ap (situation_of x y z s) e })
+  try_refused refusal (inr (b, left, found, is, e)) = subst (λ r. Handled k g house (Try (house_number house)) (situation_of x y z s p) (Err r) (situation_of x y z s p')) (sym is) (record { answered = inl (left, broken_answer g (x ∷ y ∷ z ∷ []) (dispatches s house) (prices_by s house) b found); next = ap (situation_of x y z s) e })
 
-  settle-refused : (refusal : Refusal) → Judges (Err refusal) → Handled k g house (Settle (house_number house)) (situation_of x y z s p) (Err refusal) (situation_of x y z s p')
-  settle-refused refusal (inl (none, is, e)) = subst (λ r. Handled k g house (Settle (house_number house)) (situation_of x y z s p) (Err r) (situation_of x y z s p')) (sym is) (record { answered = inr (none, refl); next = ap (situation_of x y z s) e })
-  settle-refused refusal (inr (b, left, found, is, e)) = subst (λ r. Handled k g house (Settle (house_number house)) (situation_of x y z s p) (Err r) (situation_of x y z s p')) (sym is) (record { answered = inl (left, broken_answer g (x ∷ y ∷ z ∷ []) (dispatches s house) (prices_by s house) b found); next = ap (situation_of x y z s) e })
+  settle_refused : (refusal : Refusal) → Judges (Err refusal) → Handled k g house (Settle (house_number house)) (situation_of x y z s p) (Err refusal) (situation_of x y z s p')
+  settle_refused refusal (inl (none, is, e)) = subst (λ r. Handled k g house (Settle (house_number house)) (situation_of x y z s p) (Err r) (situation_of x y z s p')) (sym is) (record { answered = inr (none, refl); next = ap (situation_of x y z s) e })
+  settle_refused refusal (inr (b, left, found, is, e)) = subst (λ r. Handled k g house (Settle (house_number house)) (situation_of x y z s p) (Err r) (situation_of x y z s p')) (sym is) (record { answered = inl (left, broken_answer g (x ∷ y ∷ z ∷ []) (dispatches s house) (prices_by s house) b found); next = ap (situation_of x y z s) e })
 
-  pub not-tried : (refusal : Refusal) (a : Answer) → IsErrAnd a (λ r. r ≡ refusal) → Judges (Err refusal) → Handled k g house (Try (house_number house)) (situation_of x y z s p) a (situation_of x y z s p')
-  not-tried refusal (Ok reply) is found = absurd is
-  not-tried refusal (Err r) is found = try-refused r (subst (λ q. Judges (Err q)) (sym is) found)
+  pub not_tried : (refusal : Refusal) (a : Answer) → IsErrAnd a (λ r. r ≡ refusal) → Judges (Err refusal) → Handled k g house (Try (house_number house)) (situation_of x y z s p) a (situation_of x y z s p')
+  not_tried refusal (Ok reply) is found = absurd is
+  not_tried refusal (Err r) is found = try_refused r (subst (λ q. Judges (Err q)) (sym is) found)
 
-  pub not-settled : (refusal : Refusal) (a : Answer) → IsErrAnd a (λ r. r ≡ refusal) → Judges (Err refusal) → Handled k g house (Settle (house_number house)) (situation_of x y z s p) a (situation_of x y z s p')
-  not-settled refusal (Ok reply) is found = absurd is
-  not-settled refusal (Err r) is found = settle-refused r (subst (λ q. Judges (Err q)) (sym is) found)
+  pub not_settled : (refusal : Refusal) (a : Answer) → IsErrAnd a (λ r. r ≡ refusal) → Judges (Err refusal) → Handled k g house (Settle (house_number house)) (situation_of x y z s p) a (situation_of x y z s p')
+  not_settled refusal (Ok reply) is found = absurd is
+  not_settled refusal (Err r) is found = settle_refused r (subst (λ q. Judges (Err q)) (sym is) found)
 
 pub blank_dispatches : (s : Sheets) → Blank s → dispatches s ≡ (λ house l n. 0)
 blank_dispatches s b = fun_ext (λ house. fun_ext (λ l. fun_ext (λ n. (b house).quantities l n)))

@@ -18,9 +18,9 @@ use Rattle.history.specs.Events.{Answer}
 use Rattle.history.specs.Right.{Verdict}
 use Rattle.judgement.specs.Parts.{AtEase, FirstFailing}
 use Rattle.judgement.specs.Verdicts.{FirstOrder, OfOrder}
-use Rattle.judgement.proofs.Verdicts.{Met-below, quantities-met, quantity-first, balance-met, balance-first, flows-met, flow-first, zone-prices-met, zone-price-first, bindings-met, binding-first, contentment-first, all-met}
+use Rattle.judgement.proofs.Verdicts.{MetBelow, quantities_met, quantity_first, balance_met, balance_first, flows_met, flow_first, zone_prices_met, zone_price_first, bindings_met, binding_first, contentment_first, all_met}
 use Rattle.worked.specs.Cases.{refused}
-use Rattle.worked.proofs.Searching.{or_else, mapped, first_failing, first-failing-is, first_order, first_order_in, first-order-is}
+use Rattle.worked.proofs.Searching.{or_else, mapped, first_failing, first_failing_is, first_order, first_order_in, first_order_is}
 use Rattle.worked.proofs.Testing.{le_decides, le_ℤ_decides, same, same_decides, takes, takes_decides, binds, binds_decides, at_ease, at_ease_decides}
 
 -- the first of the numbers or orders at which a rule is broken, and else what the later rules find
@@ -31,8 +31,8 @@ abbrev at_orders : Option (ℕ × ℕ) → (ℕ → ℕ → Broken) → Option B
 at_orders found rule later = or_else (mapped (λ place. rule place.0 place.1) found) later
 
 module _ (g : Grid) (b : Book) (d : Dispatch) (p : Prices) where
-  unfoldable pub first-broken : Option Broken
-  first-broken =
+  unfoldable pub first_broken : Option Broken
+  first_broken =
       at_orders (first_order b d takes) Quantity
       (cond (same (Σ g.zones (net_injection b d)) (pos 0))
       (along (first_failing (λ l. le_z (flow_over g b d l) (capacity (limit_at g l))) (line_count g)) Flow
@@ -46,68 +46,68 @@ module _ (g : Grid) (b : Book) (d : Dispatch) (p : Prices) where
   Found (Some x) = FirstBroken g b d p x
 
   -- ---- each rule: broken first at the place that was found, or met, so that the later rules decide
-  quantities : (o : Option (ℕ × ℕ)) → FirstOrder (OfOrder b d Takes) o → (later : Option Broken) → (Met-below g b d p 11 → Found later) → Found (at_orders o Quantity later)
+  quantities : (o : Option (ℕ × ℕ)) → FirstOrder (OfOrder b d Takes) o → (later : Option Broken) → (MetBelow g b d p 11 → Found later) → Found (at_orders o Quantity later)
   unfolding Found
-  quantities (Some place) (lists, before, fails) later go = quantity-first g b d p place.0 place.1 lists before fails
-  quantities None all later go = go (quantities-met g b d p all)
+  quantities (Some place) (lists, before, fails) later go = quantity_first g b d p place.0 place.1 lists before fails
+  quantities None all later go = go (quantities_met g b d p all)
 
-  balance : (t : Bool) → Decides t (Balanced g b d) → Met-below g b d p 11 → (later : Option Broken) → (Met-below g b d p 12 → Found later) → Found (cond t later (Some Balance))
+  balance : (t : Bool) → Decides t (Balanced g b d) → MetBelow g b d p 11 → (later : Option Broken) → (MetBelow g b d p 12 → Found later) → Found (cond t later (Some Balance))
   unfolding Found
-  balance true decides below later go = go (balance-met g b d p below (decides.0 refl))
-  balance false decides below later go = balance-first g b d p below (λ met. false≢true (decides.1 met))
+  balance true decides below later go = go (balance_met g b d p below (decides.0 refl))
+  balance false decides below later go = balance_first g b d p below (λ met. false≢true (decides.1 met))
 
-  flows : (o : Option ℕ) → FirstFailing (λ l. WithinLimit (limit_at g l) (flow_over g b d l)) (line_count g) o → Met-below g b d p 12 → (later : Option Broken) → (Met-below g b d p 13 → Found later) → Found (along o Flow later)
+  flows : (o : Option ℕ) → FirstFailing (λ l. WithinLimit (limit_at g l) (flow_over g b d l)) (line_count g) o → MetBelow g b d p 12 → (later : Option Broken) → (MetBelow g b d p 13 → Found later) → Found (along o Flow later)
   unfolding Found
-  flows (Some l) (there, before, fails) below later go = flow-first g b d p l below (λ k h _. before k h) (λ met. fails (met there))
-  flows None all below later go = go (flows-met g b d p below all)
+  flows (Some l) (there, before, fails) below later go = flow_first g b d p l below (λ k h _. before k h) (λ met. fails (met there))
+  flows None all below later go = go (flows_met g b d p below all)
 
-  zones-priced : (o : Option ℕ) → FirstFailing (λ z. ZonePriceInRange (zone_price g p z)) g.zones o → Met-below g b d p 13 → (later : Option Broken) → (Met-below g b d p 14 → Found later) → Found (along o ZonePrice later)
+  zones_priced : (o : Option ℕ) → FirstFailing (λ z. ZonePriceInRange (zone_price g p z)) g.zones o → MetBelow g b d p 13 → (later : Option Broken) → (MetBelow g b d p 14 → Found later) → Found (along o ZonePrice later)
   unfolding Found
-  zones-priced (Some z) (there, before, fails) below later go = zone-price-first g b d p z below (λ k h _. before k h) (λ met. fails (met there))
-  zones-priced None all below later go = go (zone-prices-met g b d p below all)
+  zones_priced (Some z) (there, before, fails) below later go = zone_price_first g b d p z below (λ k h _. before k h) (λ met. fails (met there))
+  zones_priced None all below later go = go (zone_prices_met g b d p below all)
 
-  bindings : (o : Option ℕ) → FirstFailing (λ l. Binds (limit_at g l) (p.shadow l) (flow_over g b d l)) (line_count g) o → Met-below g b d p 14 → (later : Option Broken) → (Met-below g b d p 15 → Found later) → Found (along o Binding later)
+  bindings : (o : Option ℕ) → FirstFailing (λ l. Binds (limit_at g l) (p.shadow l) (flow_over g b d l)) (line_count g) o → MetBelow g b d p 14 → (later : Option Broken) → (MetBelow g b d p 15 → Found later) → Found (along o Binding later)
   unfolding Found
-  bindings (Some l) (there, before, fails) below later go = binding-first g b d p l below (λ k h _. before k h) (λ met. fails (met there))
-  bindings None all below later go = go (bindings-met g b d p below all)
+  bindings (Some l) (there, before, fails) below later go = binding_first g b d p l below (λ k h _. before k h) (λ met. fails (met there))
+  bindings None all below later go = go (bindings_met g b d p below all)
 
-  contents : (o : Option (ℕ × ℕ)) → FirstOrder (OfOrder b d (AtEase (zone_prices g p))) o → Met-below g b d p 15 → Found (at_orders o Contentment None)
+  contents : (o : Option (ℕ × ℕ)) → FirstOrder (OfOrder b d (AtEase (zone_prices g p))) o → MetBelow g b d p 15 → Found (at_orders o Contentment None)
   unfolding Found
-  contents (Some place) (lists, before, fails) below = contentment-first g b d p place.0 place.1 below lists before fails
-  contents None all below = all-met g b d p below all
+  contents (Some place) (lists, before, fails) below = contentment_first g b d p place.0 place.1 below lists before fails
+  contents None all below = all_met g b d p below all
 
-  balanced-decides : Decides (same (Σ g.zones (net_injection b d)) (pos 0)) (Balanced g b d)
+  balanced_decides : Decides (same (Σ g.zones (net_injection b d)) (pos 0)) (Balanced g b d)
   unfolding Balanced
-  balanced-decides = same_decides (Σ g.zones (net_injection b d)) (pos 0)
+  balanced_decides = same_decides (Σ g.zones (net_injection b d)) (pos 0)
 
-  found : Found first-broken
-  unfolding first-broken
+  found : Found first_broken
+  unfolding first_broken
   found =
-      quantities _ (first-order-is b d Takes takes takes_decides) _ λ below₁.
-      balance _ balanced-decides below₁ _ λ below₂.
-      flows _ (first-failing-is _ _ (λ l. le_ℤ_decides (flow_over g b d l) (capacity (limit_at g l))) (line_count g)) below₂ _ λ below₃.
-      zones-priced _ (first-failing-is _ _ (λ z. le_decides (nat_abs (zone_price g p z)) most_zone_price) g.zones) below₃ _ λ below₄.
-      bindings _ (first-failing-is _ _ (λ l. binds_decides (limit_at g l) (p.shadow l) (flow_over g b d l)) (line_count g)) below₄ _ λ below₅.
-      contents _ (first-order-is b d (AtEase (zone_prices g p)) (at_ease (zone_prices g p)) (at_ease_decides (zone_prices g p))) below₅
+      quantities _ (first_order_is b d Takes takes takes_decides) _ λ below₁.
+      balance _ balanced_decides below₁ _ λ below₂.
+      flows _ (first_failing_is _ _ (λ l. le_ℤ_decides (flow_over g b d l) (capacity (limit_at g l))) (line_count g)) below₂ _ λ below₃.
+      zones_priced _ (first_failing_is _ _ (λ z. le_decides (nat_abs (zone_price g p z)) most_zone_price) g.zones) below₃ _ λ below₄.
+      bindings _ (first_failing_is _ _ (λ l. binds_decides (limit_at g l) (p.shadow l) (flow_over g b d l)) (line_count g)) below₄ _ λ below₅.
+      contents _ (first_order_is b d (AtEase (zone_prices g p)) (at_ease (zone_prices g p)) (at_ease_decides (zone_prices g p))) below₅
 
   told : Option Broken → Answer
   told None = Ok (Says.Accepted (welfare_of b d) (rent_of g b d p))
   told (Some x) = refused x
 
-  told-right : (o : Option Broken) → Found o → Verdict g b d p (told o)
+  told_right : (o : Option Broken) → Found o → Verdict g b d p (told o)
   unfolding Found told
-  told-right None ok = inl (ok, refl)
-  told-right (Some x) first = inr (x, first, refl)
+  told_right None ok = inl (ok, refl)
+  told_right (Some x) first = inr (x, first, refl)
 
   unfoldable pub judged : Answer
   unfolding told
-  judged = told first-broken
+  judged = told first_broken
 
-  pub judged-right : (a : Answer) → judged ≡ a → Verdict g b d p a
+  pub judged_right : (a : Answer) → judged ≡ a → Verdict g b d p a
   unfolding judged
-  judged-right a e = subst (Verdict g b d p) e (told-right first-broken found)
+  judged_right a e = subst (Verdict g b d p) e (told_right first_broken found)
 
 -- all that has to be opened to compute with a sheet of a tree's network
 unfoldable pub computing : Unit {0}
-unfolding judged first-broken first_failing first_order_in Σ Σℕ over_orders welfare_of net_injection flow_over zone_price exact_rent amount_of standing_kwh passes share tree_line tree_lines
+unfolding judged first_broken first_failing first_order_in Σ Σℕ over_orders welfare_of net_injection flow_over zone_price exact_rent amount_of standing_kwh passes share tree_line tree_lines
 computing = tt

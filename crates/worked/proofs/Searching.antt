@@ -26,10 +26,10 @@ module _ (P : ℕ → Type 0) (test : ℕ → Bool) (decides : (i : ℕ) → Dec
   one_more n None all true d = λ i h. below_more P n all (d.0 refl) i (omega arith)
   one_more n None all false d = (omega arith, all, λ p. false≢true (d.1 p))
 
-  pub first-failing-is : (n : ℕ) → FirstFailing P n (first_failing test n)
+  pub first_failing_is : (n : ℕ) → FirstFailing P n (first_failing test n)
   unfolding first_failing
-  first-failing-is zero = λ i h. absurd (omega arith)
-  first-failing-is (suc n) = one_more n (first_failing test n) (first-failing-is n) (test n) (decides n)
+  first_failing_is zero = λ i h. absurd (omega arith)
+  first_failing_is (suc n) = one_more n (first_failing test n) (first_failing_is n) (test n) (decides n)
 
 -- of the orders of the first k lists of an hour, each with its quantity
 unfoldable pub first_order_in : Book → Dispatch → (Entry → ℕ → Bool) → ℕ → Option (ℕ × ℕ)
@@ -41,26 +41,26 @@ abbrev pub first_order : Book → Dispatch → (Entry → ℕ → Bool) → Opti
 first_order b d test = first_order_in b d test (length b)
 
 module _ (b : Book) (d : Dispatch) (Q : Entry → ℕ → Type 0) (test : Entry → ℕ → Bool) (decides : (e : Entry) (q : ℕ) → Decides (test e q) (Q e q)) where
-  First-in : ℕ → Option (ℕ × ℕ) → Type 0
-  First-in k None = (l : ℕ) → l < k → (n : ℕ) → OfOrder b d Q l n
-  First-in k (Some place) = FirstOrder (OfOrder b d Q) (Some place)
+  FirstIn : ℕ → Option (ℕ × ℕ) → Type 0
+  FirstIn k None = (l : ℕ) → l < k → (n : ℕ) → OfOrder b d Q l n
+  FirstIn k (Some place) = FirstOrder (OfOrder b d Q) (Some place)
 
-  one-list-more : (k : ℕ) (o : Option (ℕ × ℕ)) → First-in k o → (i : Option ℕ) → FirstFailing (λ n. Q (entry_at b k n) (d k n)) (length (list_at b k)) i → First-in (suc k) (or_else o (mapped (λ n. (k, n)) i))
-  unfolding First-in
-  one-list-more k (Some place) found i here = found
-  one-list-more k None all None here = λ l h. below_more (λ j. (n : ℕ) → OfOrder b d Q j n) k all here l (omega arith)
-  one-list-more k None all (Some n) (there, before, fails) = ((λ l m h. all l h m), (λ m h _. before m h), λ met. fails (met there))
+  one_list_more : (k : ℕ) (o : Option (ℕ × ℕ)) → FirstIn k o → (i : Option ℕ) → FirstFailing (λ n. Q (entry_at b k n) (d k n)) (length (list_at b k)) i → FirstIn (suc k) (or_else o (mapped (λ n. (k, n)) i))
+  unfolding FirstIn
+  one_list_more k (Some place) found i here = found
+  one_list_more k None all None here = λ l h. below_more (λ j. (n : ℕ) → OfOrder b d Q j n) k all here l (omega arith)
+  one_list_more k None all (Some n) (there, before, fails) = ((λ l m h. all l h m), (λ m h _. before m h), λ met. fails (met there))
 
-  first-in-is : (k : ℕ) → First-in k (first_order_in b d test k)
-  unfolding First-in first_order_in
-  first-in-is zero = λ l h. absurd (omega arith)
-  first-in-is (suc k) = one-list-more k (first_order_in b d test k) (first-in-is k) _ (first-failing-is _ _ (λ n. decides (entry_at b k n) (d k n)) (length (list_at b k)))
+  first_in_is : (k : ℕ) → FirstIn k (first_order_in b d test k)
+  unfolding FirstIn first_order_in
+  first_in_is zero = λ l h. absurd (omega arith)
+  first_in_is (suc k) = one_list_more k (first_order_in b d test k) (first_in_is k) _ (first_failing_is _ _ (λ n. decides (entry_at b k n) (d k n)) (length (list_at b k)))
 
   -- there are no orders beyond the last list
-  in_all : (o : Option (ℕ × ℕ)) → First-in (length b) o → FirstOrder (OfOrder b d Q) o
-  unfolding First-in
+  in_all : (o : Option (ℕ × ℕ)) → FirstIn (length b) o → FirstOrder (OfOrder b d Q) o
+  unfolding FirstIn
   in_all (Some place) found = found
   in_all None all = λ l n entered. ⊎_elim (λ h. all l h n entered) (λ h. let none = ap length (get_or_past b l [] h) in absurd (omega arith)) (cases_lt l (length b))
 
-  pub first-order-is : FirstOrder (OfOrder b d Q) (first_order b d test)
-  first-order-is = in_all (first_order b d test) (first-in-is (length b))
+  pub first_order_is : FirstOrder (OfOrder b d Q) (first_order b d test)
+  first_order_is = in_all (first_order b d test) (first_in_is (length b))

@@ -5,7 +5,7 @@ use Rattle.rows.specs.Bounds.{InRange}
 use Rattle.history.specs.Right.{Run}
 use Rattle.worked.specs.Table.{two_zones}
 use Rattle.worked.specs.Settled.{kinds, settled_hour, SettledRun}
-use Rattle.worked.proofs.Judging.{judged-right, computing}
+use Rattle.worked.proofs.Judging.{judged_right, computing}
 
 -- a question that gets a yes
 granted : {Question Next No : Type 0} → Question → Next → (Question × Next) ⊎ No
@@ -43,8 +43,8 @@ settled_run = record { right = right; settled = refl; seller_is_paid = refl; buy
         then allowed tt refl (granted (lit< tt) (granted (lit≤ tt) refl))
         then allowed tt refl (granted tt (granted (lit≤ tt) refl))
         -- the try without the line's price, the price, and the try with it
-        then allowed tt refl (granted (lit< tt) (judged-right _ _ _ _ _ refl))
+        then allowed tt refl (granted (lit< tt) (judged_right _ _ _ _ _ refl))
         then allowed tt refl (granted (lit< tt) (granted (lit≤ tt) refl))
-        then allowed tt refl (granted (lit< tt) (judged-right _ _ _ _ _ refl))
+        then allowed tt refl (granted (lit< tt) (judged_right _ _ _ _ _ refl))
         -- the settling
-        then allowed tt refl (granted (lit< tt) (judged-right _ _ _ _ _ refl))
+        then allowed tt refl (granted (lit< tt) (judged_right _ _ _ _ _ refl))

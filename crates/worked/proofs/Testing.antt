@@ -7,7 +7,7 @@ use Rattle.auction.specs.Limits.{Limit, Binds, capacity}
 use Rattle.auction.specs.Orders.{Order, Possible, ZonePrices, Content, gain}
 use Rattle.auction.specs.Hours.{Entry, Takes}
 use Rattle.judgement.specs.Parts.{AtEase, FirstFailing}
-use Rattle.worked.proofs.Searching.{first_failing, first-failing-is}
+use Rattle.worked.proofs.Searching.{first_failing, first_failing_is}
 
 pub le_decides : (m n : ℕ) → Decides (leb m n) (m ≤ n)
 le_decides m n = (leb-true m n, le-leb m n)
@@ -44,25 +44,25 @@ binds_decides limit shadow flow = asked_decides (ltb 0 shadow) (same flow (capac
 
 -- every quantity that is possible is tried
 module _ (r : ZonePrices) (o : Order) (q : ℕ) where
-  abbrev none-better : Option ℕ
-  none-better = first_failing (λ other. le_z (gain r o other) (gain r o q)) (suc o.largest)
+  abbrev none_better : Option ℕ
+  none_better = first_failing (λ other. le_z (gain r o other) (gain r o q)) (suc o.largest)
 
   abbrev pub content : Bool
-  content = leb q o.largest && not (is_some none-better)
+  content = leb q o.largest && not (is_some none_better)
 
-  best-decides : (found : Option ℕ) → FirstFailing (λ other. gain r o other ≤ℤ gain r o q) (suc o.largest) found → Decides (not (is_some found)) ((other : ℕ) → Possible o other → gain r o other ≤ℤ gain r o q)
-  best-decides None all = (λ e other h. all other (omega arith), λ h. refl)
-  best-decides (Some other) (there, before, fails) = (λ e. absurd (false≢true e), λ h. absurd (fails (h other (omega arith))))
+  best_decides : (found : Option ℕ) → FirstFailing (λ other. gain r o other ≤ℤ gain r o q) (suc o.largest) found → Decides (not (is_some found)) ((other : ℕ) → Possible o other → gain r o other ≤ℤ gain r o q)
+  best_decides None all = (λ e other h. all other (omega arith), λ h. refl)
+  best_decides (Some other) (there, before, fails) = (λ e. absurd (false≢true e), λ h. absurd (fails (h other (omega arith))))
 
-  content-decides : Decides content (Content r o q)
-  content-decides =
-      let best = best-decides none-better (first-failing-is _ _ (λ other. le_ℤ_decides (gain r o other) (gain r o q)) (suc o.largest)) in (
-        λ e. let both = and_parts (leb q o.largest) (not (is_some none-better)) e in record { possible = leb-true q o.largest both.0; best = best.0 both.1 },
-        λ c. and_from (leb q o.largest) (not (is_some none-better)) (le-leb q o.largest c.possible) (best.1 c.best),
+  content_decides : Decides content (Content r o q)
+  content_decides =
+      let best = best_decides none_better (first_failing_is _ _ (λ other. le_ℤ_decides (gain r o other) (gain r o q)) (suc o.largest)) in (
+        λ e. let both = and_parts (leb q o.largest) (not (is_some none_better)) e in record { possible = leb-true q o.largest both.0; best = best.0 both.1 },
+        λ c. and_from (leb q o.largest) (not (is_some none_better)) (le-leb q o.largest c.possible) (best.1 c.best),
       )
 
 abbrev pub at_ease : ZonePrices → Entry → ℕ → Bool
 at_ease r e q = cond e.standing (content r e.order q) true
 
 pub at_ease_decides : (r : ZonePrices) (e : Entry) (q : ℕ) → Decides (at_ease r e q) (AtEase r e q)
-at_ease_decides r e q = asked_decides e.standing (content r e.order q) (λ h. h) (λ h. h) (content-decides r e.order q)
+at_ease_decides r e q = asked_decides e.standing (content r e.order q) (λ h. h) (λ h. h) (content_decides r e.order q)

@@ -3,7 +3,7 @@ use Rattle.std.proofs.Common.{◌≡◌, List, [], ◌∷◌, map, refl}
 use Rattle.history.specs.Events.{Answer}
 use Rattle.worked.specs.Cases.{Case, AllStand}
 use Rattle.worked.specs.Table.{table, WorkedCases}
-use Rattle.worked.proofs.Judging.{judged, judged-right, computing}
+use Rattle.worked.proofs.Judging.{judged, judged_right, computing}
 
 abbrev judgement_of : Case → Answer
 judgement_of c = judged c.grid c.book c.sheet.dispatch c.sheet.prices
@@ -13,7 +13,7 @@ all_stand [] e = tt
 all_stand (c ∷ cs) e =
     let first : judgement_of c ≡ c.verdict = cc in
     let others : map judgement_of cs ≡ map (λ x. x.verdict) cs = cc in
-    (judged-right c.grid c.book c.sheet.dispatch c.sheet.prices c.verdict first, all_stand cs others)
+    (judged_right c.grid c.book c.sheet.dispatch c.sheet.prices c.verdict first, all_stand cs others)
 
 pub worked_cases : WorkedCases
 unfolding computing

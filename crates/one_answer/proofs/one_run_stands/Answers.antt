@@ -1,5 +1,5 @@
-use Rattle.one_answer.proofs.Runs.{one-run}
+use Rattle.one_answer.proofs.Runs.{one_run}
 use Rattle.one_answer.proofs.one_run_stands.Goals as goal
 
 pub returns : goal.returns
-returns g c grid = one-run g.K.ThreeKinds.kinds grid g.K.ThreeKinds.answerable
+returns g c grid = one_run g.K.ThreeKinds.kinds grid g.K.ThreeKinds.answerable

@@ -1,5 +1,5 @@
-use Rattle.one_answer.proofs.Sheets.{accepted-or-broken}
+use Rattle.one_answer.proofs.Sheets.{accepted_or_broken}
 use Rattle.one_answer.proofs.some_verdict_stands.Goals as goal
 
 pub returns : goal.returns
-returns c = accepted-or-broken
+returns c = accepted_or_broken

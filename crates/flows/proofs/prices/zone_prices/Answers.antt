@@ -3,18 +3,18 @@ use Rattle.std.proofs.lemmas.Int.{to_z-of_z}
 use Rattle.std.proofs.lemmas.Bool.Decides.{not_from_Decides}
 use Rattle.auction.specs.Orders.{ZonePriceInRange}
 use Rattle.flows.proofs.Casts.{narrowed}
-use Rattle.flows.proofs.Pricing.{priced-start, priced-next, priced-all}
+use Rattle.flows.proofs.Pricing.{priced_start, priced_next, priced_all}
 use Rattle.flows.proofs.prices.zone_prices.Goals as goal
 
 pub loop-zone-init : goal.loop-zone-init
-loop-zone-init g c = priced-start _ _
+loop-zone-init g c = priced_start _ _
 
 pub loop-zone-preserved : goal.loop-zone-preserved
 loop-zone-preserved g c =
     let few = g.met.N.Network.fewzones c.args.network.now in
     let ranged = c.if-not-in-range.ensures.0 refl in
     let wide = to_z-of_z w64 c.price-of-price.result (record { sfits = c.price-of-price.type-inv }) in
-    priced-next _ _ c.loop-zone.zone c.loop-zone.prices _ c.loop-zone.invariant (omega arith)
+    priced_next _ _ c.loop-zone.zone c.loop-zone.prices _ c.loop-zone.invariant (omega arith)
     (narrowed c.price-of-price.result c.price-of-price.type-inv ranged ∙ c.price-of-price.ensures)
     (subst ZonePriceInRange (wide ∙ c.price-of-price.ensures) ranged)
 
@@ -24,4 +24,4 @@ returns-then-not-in-range g c =
     (omega arith, c.loop-zone.invariant.in_range, λ ranged. not_from_Decides c.in_range.result c.in_range.ensures c.if-not-in-range.true (subst ZonePriceInRange (sym (wide ∙ c.price-of-price.ensures)) ranged))
 
 pub returns : goal.returns
-returns g c = priced-all _ _ c.loop-zone.zone c.loop-zone.prices c.loop-zone.invariant (omega arith)
+returns g c = priced_all _ _ c.loop-zone.zone c.loop-zone.prices c.loop-zone.invariant (omega arith)

@@ -2,7 +2,7 @@ use Rattle.std.proofs.Common.{◌∙◌}
 use Rattle.auction.specs.declared.Broken.TheVariants.{Quantity}
 use Rattle.sheets.specs.Proposals.{dispatch_of, prices_of}
 use Rattle.judgement.specs.Verdicts.{book_of}
-use Rattle.judgement.proofs.Ties.{amount-tie}
+use Rattle.judgement.proofs.Ties.{amount_tie}
 use Rattle.judgement.proofs.judging.judge.Goals as goal
 
 -- an accepted sheet's orders take what is possible for them
@@ -15,6 +15,6 @@ returns-in-Ok g c =
     let book = book_of (g.X.OrderList.entries c.args.first.now) (g.Y.OrderList.entries c.args.second.now) (g.W.OrderList.entries c.args.third.now) in
     let d = dispatch_of c.args.sheet.now in
     let p = prices_of c.args.sheet.now in
-    let tie = amount-tie grid p c.in-Ok.prices (g.met.N.Network.fewzones c.args.network.now) c.in-Ok.ensures.1 book d in
+    let tie = amount_tie grid p c.in-Ok.prices (g.met.N.Network.fewzones c.args.network.now) c.in-Ok.ensures.1 book d in
     let told = c.accounts.ensures in
     (c.in-Ok.ensures.0, told.welfare, told.rent, told.zero ∙ tie 0, told.one ∙ tie 1)

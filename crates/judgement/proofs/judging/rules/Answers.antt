@@ -3,7 +3,7 @@ use Rattle.std.proofs.lemmas.Bool.Decides.{not_from_Decides}
 use Rattle.sheets.specs.Proposals.{dispatch_of, prices_of}
 use Rattle.judgement.specs.Verdicts.{book_of}
 use Rattle.judgement.proofs.Filling.{nets_all}
-use Rattle.judgement.proofs.Steps.{quantity-broken, balance-broken, flow-broken, zone-price-broken, binding-broken, contentment-broken, none-broken}
+use Rattle.judgement.proofs.Steps.{quantity_broken, balance_broken, flow_broken, zone_price_broken, binding_broken, contentment_broken, none_broken}
 use Rattle.judgement.proofs.judging.rules.Goals as goal
 
 pub net-injections-nets-requires : goal.net-injections-nets-requires
@@ -17,7 +17,7 @@ returns-in-Some g c =
     let book = book_of (g.X.OrderList.entries c.args.first.now) (g.Y.OrderList.entries c.args.second.now) (g.W.OrderList.entries c.args.third.now) in
     let d = dispatch_of c.args.sheet.now in
     let p = prices_of c.args.sheet.now in
-    quantity-broken grid book d p c.in-Some.list c.in-Some.number c.in-Some.ensures
+    quantity_broken grid book d p c.in-Some.list c.in-Some.number c.in-Some.ensures
 
 pub returns-then-not-in-balance : goal.returns-then-not-in-balance
 returns-then-not-in-balance g c =
@@ -27,7 +27,7 @@ returns-then-not-in-balance g c =
     let p = prices_of c.args.sheet.now in
     let few = g.met.N.Network.fewzones c.args.network.now in
     let found = nets_all book d c.net-injections-nets.result c.zones.result grid.zones c.net-injections-nets.ensures c.zones.ensures in
-    balance-broken grid book d p few c.net-injections-nets.result found c.in-default.ensures (not_from_Decides c.in-balance.result c.in-balance.ensures c.if-not-in-balance.true)
+    balance_broken grid book d p few c.net-injections-nets.result found c.in-default.ensures (not_from_Decides c.in-balance.result c.in-balance.ensures c.if-not-in-balance.true)
 
 pub returns-in-Some-first-overloaded : goal.returns-in-Some-first-overloaded
 returns-in-Some-first-overloaded g c =
@@ -37,7 +37,7 @@ returns-in-Some-first-overloaded g c =
     let p = prices_of c.args.sheet.now in
     let few = g.met.N.Network.fewzones c.args.network.now in
     let found = nets_all book d c.net-injections-nets.result c.zones.result grid.zones c.net-injections-nets.ensures c.zones.ensures in
-    flow-broken grid book d p few c.net-injections-nets.result found c.in-default.ensures (c.if-not-in-balance.ensures.0 refl) c.in-Some-first-overloaded.line c.in-Some-first-overloaded.ensures
+    flow_broken grid book d p few c.net-injections-nets.result found c.in-default.ensures (c.if-not-in-balance.ensures.0 refl) c.in-Some-first-overloaded.line c.in-Some-first-overloaded.ensures
 
 pub returns-in-Err : goal.returns-in-Err
 returns-in-Err g c =
@@ -47,7 +47,7 @@ returns-in-Err g c =
     let p = prices_of c.args.sheet.now in
     let few = g.met.N.Network.fewzones c.args.network.now in
     let found = nets_all book d c.net-injections-nets.result c.zones.result grid.zones c.net-injections-nets.ensures c.zones.ensures in
-    zone-price-broken grid book d p few c.net-injections-nets.result found c.in-default.ensures (c.if-not-in-balance.ensures.0 refl) c.in-default-first-overloaded.ensures c.in-Err.zone c.in-Err.ensures
+    zone_price_broken grid book d p few c.net-injections-nets.result found c.in-default.ensures (c.if-not-in-balance.ensures.0 refl) c.in-default-first-overloaded.ensures c.in-Err.zone c.in-Err.ensures
 
 pub returns-in-Some-first-unbound : goal.returns-in-Some-first-unbound
 returns-in-Some-first-unbound g c =
@@ -57,7 +57,7 @@ returns-in-Some-first-unbound g c =
     let p = prices_of c.args.sheet.now in
     let few = g.met.N.Network.fewzones c.args.network.now in
     let found = nets_all book d c.net-injections-nets.result c.zones.result grid.zones c.net-injections-nets.ensures c.zones.ensures in
-    binding-broken grid book d p few c.net-injections-nets.result found c.in-default.ensures (c.if-not-in-balance.ensures.0 refl) c.in-default-first-overloaded.ensures c.in-Ok.prices c.in-Ok.ensures c.in-Some-first-unbound.line c.in-Some-first-unbound.ensures
+    binding_broken grid book d p few c.net-injections-nets.result found c.in-default.ensures (c.if-not-in-balance.ensures.0 refl) c.in-default-first-overloaded.ensures c.in-Ok.prices c.in-Ok.ensures c.in-Some-first-unbound.line c.in-Some-first-unbound.ensures
 
 pub returns-in-Some-discontent : goal.returns-in-Some-discontent
 returns-in-Some-discontent g c =
@@ -67,7 +67,7 @@ returns-in-Some-discontent g c =
     let p = prices_of c.args.sheet.now in
     let few = g.met.N.Network.fewzones c.args.network.now in
     let found = nets_all book d c.net-injections-nets.result c.zones.result grid.zones c.net-injections-nets.ensures c.zones.ensures in
-    contentment-broken grid book d p few c.net-injections-nets.result found c.in-default.ensures (c.if-not-in-balance.ensures.0 refl) c.in-default-first-overloaded.ensures c.in-Ok.prices c.in-Ok.ensures c.in-default-first-unbound.ensures c.in-Some-discontent.list c.in-Some-discontent.number c.in-Some-discontent.ensures
+    contentment_broken grid book d p few c.net-injections-nets.result found c.in-default.ensures (c.if-not-in-balance.ensures.0 refl) c.in-default-first-overloaded.ensures c.in-Ok.prices c.in-Ok.ensures c.in-default-first-unbound.ensures c.in-Some-discontent.list c.in-Some-discontent.number c.in-Some-discontent.ensures
 
 pub returns : goal.returns
 returns g c =
@@ -77,4 +77,4 @@ returns g c =
     let p = prices_of c.args.sheet.now in
     let few = g.met.N.Network.fewzones c.args.network.now in
     let found = nets_all book d c.net-injections-nets.result c.zones.result grid.zones c.net-injections-nets.ensures c.zones.ensures in
-    none-broken grid book d p few c.net-injections-nets.result found c.in-default.ensures (c.if-not-in-balance.ensures.0 refl) c.in-default-first-overloaded.ensures c.in-Ok.prices c.in-Ok.ensures c.in-default-first-unbound.ensures c.in-default-discontent.ensures
+    none_broken grid book d p few c.net-injections-nets.result found c.in-default.ensures (c.if-not-in-balance.ensures.0 refl) c.in-default-first-overloaded.ensures c.in-Ok.prices c.in-Ok.ensures c.in-default-first-unbound.ensures c.in-default-discontent.ensures

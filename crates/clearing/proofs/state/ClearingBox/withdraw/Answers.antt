@@ -1,22 +1,22 @@
 use Rattle.std.proofs.Common.{refl, arith}
 use Rattle.clearing.specs.Views.{kinds_of, situation}
-use Rattle.history.proofs.Handling.{withdrawn-first, withdrawn-second, withdrawn-third, withdrawn_none}
+use Rattle.history.proofs.Handling.{withdrawn_first, withdrawn_second, withdrawn_third, withdrawn_none}
 use Rattle.clearing.proofs.state.ClearingBox.withdraw.Goals as goal
 
 pub returns-in-0 : goal.returns-in-0
 returns-in-0 g c =
     let b = c.args.self.now in
-    (refl, withdrawn-first (kinds_of g.X.OrderList g.Y.OrderList g.W.OrderList) (g.N.Network.grid b.network) c.args.house (situation g.X.OrderList g.Y.OrderList g.W.OrderList b) (g.X.OrderList.entries b.first) (g.Y.OrderList.entries b.second) (g.W.OrderList.entries b.third) c.args.list c.args.number c.withdraw-from.result (g.X.OrderList.entries c.withdraw-from.new.list) (omega arith) c.withdraw-from.ensures)
+    (refl, withdrawn_first (kinds_of g.X.OrderList g.Y.OrderList g.W.OrderList) (g.N.Network.grid b.network) c.args.house (situation g.X.OrderList g.Y.OrderList g.W.OrderList b) (g.X.OrderList.entries b.first) (g.Y.OrderList.entries b.second) (g.W.OrderList.entries b.third) c.args.list c.args.number c.withdraw-from.result (g.X.OrderList.entries c.withdraw-from.new.list) (omega arith) c.withdraw-from.ensures)
 
 pub returns-in-1 : goal.returns-in-1
 returns-in-1 g c =
     let b = c.args.self.now in
-    (refl, withdrawn-second (kinds_of g.X.OrderList g.Y.OrderList g.W.OrderList) (g.N.Network.grid b.network) c.args.house (situation g.X.OrderList g.Y.OrderList g.W.OrderList b) (g.X.OrderList.entries b.first) (g.Y.OrderList.entries b.second) (g.W.OrderList.entries b.third) c.args.list c.args.number c.withdraw-from-in-1.result (g.Y.OrderList.entries c.withdraw-from-in-1.new.list) (omega arith) c.withdraw-from-in-1.ensures)
+    (refl, withdrawn_second (kinds_of g.X.OrderList g.Y.OrderList g.W.OrderList) (g.N.Network.grid b.network) c.args.house (situation g.X.OrderList g.Y.OrderList g.W.OrderList b) (g.X.OrderList.entries b.first) (g.Y.OrderList.entries b.second) (g.W.OrderList.entries b.third) c.args.list c.args.number c.withdraw-from-in-1.result (g.Y.OrderList.entries c.withdraw-from-in-1.new.list) (omega arith) c.withdraw-from-in-1.ensures)
 
 pub returns-in-2 : goal.returns-in-2
 returns-in-2 g c =
     let b = c.args.self.now in
-    (refl, withdrawn-third (kinds_of g.X.OrderList g.Y.OrderList g.W.OrderList) (g.N.Network.grid b.network) c.args.house (situation g.X.OrderList g.Y.OrderList g.W.OrderList b) (g.X.OrderList.entries b.first) (g.Y.OrderList.entries b.second) (g.W.OrderList.entries b.third) c.args.list c.args.number c.withdraw-from-in-2.result (g.W.OrderList.entries c.withdraw-from-in-2.new.list) (omega arith) c.withdraw-from-in-2.ensures)
+    (refl, withdrawn_third (kinds_of g.X.OrderList g.Y.OrderList g.W.OrderList) (g.N.Network.grid b.network) c.args.house (situation g.X.OrderList g.Y.OrderList g.W.OrderList b) (g.X.OrderList.entries b.first) (g.Y.OrderList.entries b.second) (g.W.OrderList.entries b.third) c.args.list c.args.number c.withdraw-from-in-2.result (g.W.OrderList.entries c.withdraw-from-in-2.new.list) (omega arith) c.withdraw-from-in-2.ensures)
 
 pub returns-in-default : goal.returns-in-default
 returns-in-default g c =

@@ -3,7 +3,7 @@ use Rattle.rows.specs.Kwh.{no_row}
 use Rattle.std.proofs.lemmas.List.{length-set}
 use Rattle.auction.specs.Bounds.{most_price, most_kwh}
 use Rattle.rows.specs.Rows.{withdrawn}
-use Rattle.rows.proofs.Held.{kwh_left, without_set, all-replaced}
+use Rattle.rows.proofs.Held.{kwh_left, without_set, all_replaced}
 use Rattle.rows.proofs.table.Rows.end.Goals as goal
 
 pub overflow-sub-self : goal.overflow-sub-self
@@ -18,9 +18,9 @@ invariant-of-self c =
     let used : c.args.number < c.args.self.now.count = omega arith in
     let before = c.args.self.now in
     let fallen = withdrawn (get_or before.rows c.args.number no_row) in
-    let cheap = all-replaced (λ r. r.price ≤ most_price) before.count before.rows before.cheap c.args.number fallen there (before.cheap c.args.number used) in
-    let some = all-replaced (λ r. 0 < r.quantity) before.count before.rows before.some c.args.number fallen there (before.some c.args.number used) in
-    let small = all-replaced (λ r. r.quantity ≤ most_kwh) before.count before.rows before.small c.args.number fallen there (before.small c.args.number used) in
+    let cheap = all_replaced (λ r. r.price ≤ most_price) before.count before.rows before.cheap c.args.number fallen there (before.cheap c.args.number used) in
+    let some = all_replaced (λ r. 0 < r.quantity) before.count before.rows before.some c.args.number fallen there (before.some c.args.number used) in
+    let small = all_replaced (λ r. r.quantity ≤ most_kwh) before.count before.rows before.small c.args.number fallen there (before.small c.args.number used) in
     (omega arith, (simp length-set (omega arith), (λ k l. omega (arith, cheap k l), (λ k l. omega (arith, some k l), (λ k l. omega (arith, small k l), (omega arith, (omega arith, tt)))))))
 
 pub returns : goal.returns

@@ -3,11 +3,11 @@ use borrow.Author.Differences.{ints}
 use Rattle.orders.specs.Reads.{array_prices}
 use Rattle.kinds.specs.Kinds.{offer}
 use Rattle.kinds.specs.Slopes.{offer_slope}
-use Rattle.kinds.proofs.Slopes.{content-by}
-use Rattle.kinds.specs.Gains.{offer-gain}
+use Rattle.kinds.proofs.Slopes.{content_by}
+use Rattle.kinds.specs.Gains.{offer_gain}
 use Rattle.kinds.proofs.offer.kind.OfferKind.content.Goals as goal
 
 pub returns : goal.returns
 returns c =
-    content-by (array_prices c.args.prices.now) (offer c.args.self.now.zone c.args.self.now.price c.args.self.now.quantity) (offer_slope c.args.prices.now c.args.self.now.zone c.args.self.now.price)
-    (offer-gain c.args.prices.now c.told-prices c.args.self.now.zone c.args.self.now.price c.args.self.now.quantity) c.args.quantity c.content-at.result _ c.content-at.ensures (omega (arith, ints))
+    content_by (array_prices c.args.prices.now) (offer c.args.self.now.zone c.args.self.now.price c.args.self.now.quantity) (offer_slope c.args.prices.now c.args.self.now.zone c.args.self.now.price)
+    (offer_gain c.args.prices.now c.told-prices c.args.self.now.zone c.args.self.now.price c.args.self.now.quantity) c.args.quantity c.content-at.result _ c.content-at.ensures (omega (arith, ints))

@@ -3,11 +3,11 @@ use borrow.Author.Differences.{ints}
 use Rattle.orders.specs.Reads.{array_prices}
 use Rattle.kinds.specs.Kinds.{transfer}
 use Rattle.kinds.specs.Slopes.{transfer_slope}
-use Rattle.kinds.proofs.Slopes.{content-by}
-use Rattle.kinds.specs.Gains.{transfer-gain}
+use Rattle.kinds.proofs.Slopes.{content_by}
+use Rattle.kinds.specs.Gains.{transfer_gain}
 use Rattle.kinds.proofs.transfer.kind.TransferKind.content.Goals as goal
 
 pub returns : goal.returns
 returns c =
-    content-by (array_prices c.args.prices.now) (transfer c.args.self.now.first c.args.self.now.second c.args.self.now.price c.args.self.now.quantity) (transfer_slope c.args.prices.now c.args.self.now.first c.args.self.now.second c.args.self.now.price)
-    (transfer-gain c.args.prices.now c.told-prices c.args.self.now.first c.args.self.now.second c.args.self.now.price c.args.self.now.quantity) c.args.quantity c.content-at.result _ c.content-at.ensures (omega (arith, ints))
+    content_by (array_prices c.args.prices.now) (transfer c.args.self.now.first c.args.self.now.second c.args.self.now.price c.args.self.now.quantity) (transfer_slope c.args.prices.now c.args.self.now.first c.args.self.now.second c.args.self.now.price)
+    (transfer_gain c.args.prices.now c.told-prices c.args.self.now.first c.args.self.now.second c.args.self.now.price c.args.self.now.quantity) c.args.quantity c.content-at.result _ c.content-at.ensures (omega (arith, ints))
