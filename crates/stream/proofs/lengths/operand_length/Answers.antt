@@ -10,6 +10,6 @@ pub returns-in-Some : goal.returns-in-Some
 unfolding operand_length
 returns-in-Some c = search rules
 
-pub returns-in-Some-hour-length : goal.returns-in-Some-hour-length
+pub returns-in-Some-hour_length : goal.returns-in-Some-hour_length
 unfolding operand_length
-returns-in-Some-hour-length c = search rules
+returns-in-Some-hour_length c = search rules

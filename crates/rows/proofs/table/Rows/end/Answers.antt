@@ -6,13 +6,13 @@ use Rattle.rows.specs.Rows.{withdrawn}
 use Rattle.rows.proofs.Held.{kwh_left, without_set, all_replaced}
 use Rattle.rows.proofs.table.Rows.end.Goals as goal
 
-pub overflow-sub-self : goal.overflow-sub-self
-overflow-sub-self c =
+pub overflow_sub-self : goal.overflow_sub-self
+overflow_sub-self c =
     let left = kwh_left c.args.self.now.count c.args.self.now.rows c.args.number no_row (omega arith) (omega arith) c.requires.1 in
     omega arith
 
-pub invariant-of-self : goal.invariant-of-self
-invariant-of-self c =
+pub invariant_of-self : goal.invariant_of-self
+invariant_of-self c =
     let left = kwh_left c.args.self.now.count c.args.self.now.rows c.args.number no_row (omega arith) (omega arith) c.requires.1 in
     let there : c.args.number < length c.args.self.now.rows = omega arith in
     let used : c.args.number < c.args.self.now.count = omega arith in

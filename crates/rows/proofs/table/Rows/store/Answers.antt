@@ -6,8 +6,8 @@ use Rattle.rows.specs.Rows.{entered}
 use Rattle.rows.proofs.Held.{kwh_push, all_more}
 use Rattle.rows.proofs.table.Rows.store.Goals as goal
 
-pub invariant-of-self : goal.invariant-of-self
-invariant-of-self c =
+pub invariant_of-self : goal.invariant_of-self
+invariant_of-self c =
     let before = c.args.self.now in
     let there : before.count < length before.rows = omega arith in
     let longer = ap rows_kwh (take_more_set before.rows before.count (entered c.args.row) there) in

@@ -2,8 +2,8 @@ use Rattle.std.proofs.Common.{refl}
 use Rattle.sheets.proofs.Places.{zeros, zeros_small, nothing_filled}
 use Rattle.sheets.proofs.sheet.Sheet.empty.Goals as goal
 
-pub invariant-of-result : goal.invariant-of-result
-invariant-of-result c = (refl, (refl, (refl, (refl, (zeros_small 60, tt)))))
+pub invariant_of-result : goal.invariant_of-result
+invariant_of-result c = (refl, (refl, (refl, (refl, (zeros_small 60, tt)))))
 
 pub returns : goal.returns
 returns c = (nothing_filled, (refl, zeros 60))

@@ -3,7 +3,7 @@ use Rattle.std.proofs.lemmas.List.{length-set}
 use Rattle.sheets.proofs.Places.{set_small}
 use Rattle.sheets.proofs.sheet.Sheet.fill_shadow_price.Goals as goal
 
-pub invariant-of-self : goal.invariant-of-self
-invariant-of-self c =
+pub invariant_of-self : goal.invariant_of-self
+invariant_of-self c =
     let s = c.args.self.now in
     (s.firsts, (s.seconds, (s.thirds, (length-set s.shadow c.args.line c.args.price ∙ s.shadows, (set_small s.shadow c.args.line c.args.price 1000000 s.bounded (omega arith), tt)))))
