@@ -5,5 +5,6 @@ mod amounts;
 mod held;
 mod monitored;
 
+pub use auction::bounds::MOST_MONITORED as MOST_WATCHED;
 pub use held::HeldBack;
 pub use monitored::Monitored;

@@ -15,7 +15,7 @@ use rows::Row;
 /// An order of one kind. It is made of a row whose price and quantity are in range, and of no other, so what it is asked needs no premise. A quantity beyond the largest is worth nothing, feeds nothing and leaves nobody content.
 pub trait Kind: Copy {
     /// What a house hands in to enter an order of this kind.
-    type Wish: Copy;
+    type Wish;
 
     ghost meaning: { Self → Order };
 

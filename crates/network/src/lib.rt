@@ -11,6 +11,7 @@ mod listed;
 mod row;
 mod rows;
 
+pub use auction::bounds::{MOST_KWH, MOST_LINES, MOST_SENSITIVITY, MOST_ZONES};
 pub use list::RowList;
 pub use row::Row;
 

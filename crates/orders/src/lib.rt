@@ -9,13 +9,13 @@ ghost use Rattle.auction.specs.Orders.{Order, Sound};
 ghost use Rattle.auction.specs.Refusals.{Answered};
 ghost use Rattle.orders.specs.Reads.{entry, Answers, ContentAt, standing_kwh, without, PlaceLeft};
 
-use auction::bounds::MOST_ZONES;
+pub use auction::bounds::MOST_ZONES;
 use auction::{Fault, House};
 
 /// What the box asks of a list of orders. A query never refuses and alters nothing; beyond the list it answers 0, false or not content.
 pub trait OrderList {
     /// What a house hands in to enter an order of this kind.
-    type Wish: Copy;
+    type Wish;
 
     ghost entries: { Self → List Entry };
 

@@ -7,5 +7,6 @@ mod reads;
 mod row;
 mod table;
 
+pub use auction::bounds::{MOST_KWH, MOST_ORDERS, MOST_PRICE};
 pub use row::Row;
 pub use table::Rows;

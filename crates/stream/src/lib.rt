@@ -6,6 +6,7 @@ mod faults;
 mod lengths;
 mod reader;
 
+pub use auction::bounds::MOST_ZONES as SENSITIVITIES;
 pub use commands::Command;
 pub use lengths::{letters_stand, operand_length};
 pub use reader::{Item, MOST_BYTES, ReadFault, Reader};
