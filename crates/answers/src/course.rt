@@ -8,7 +8,7 @@ use auction::Refusal;
 use block::Draft;
 use ground::{Ground, take};
 use reading::{Placed, next_command};
-use report::{refused, refused_line, taken_line};
+use report::{refused_at, refused_line, taken_line};
 use std::alloc::{AllocError, Global};
 use stream::Reader;
 
@@ -19,7 +19,7 @@ fn line(heap: Global, placed: &Placed, answer: Result<(), Refusal>) -> Result<St
     let letter = placed.command.letter();
     match answer {
         Ok(()) => taken_line(heap, placed.offset, letter),
-        Err(refusal) => refused_line(heap, &refused(placed.offset, letter, refusal)),
+        Err(refusal) => refused_line(heap, &refused_at(placed.offset, letter, refusal)),
     }
 }
 

@@ -11,7 +11,7 @@ use history::Reply;
 use kinds::{TransferWish, ZoneWish};
 use network::Network;
 use orders::OrderList;
-use report::{accepted_line, refused, refused_line, taken_line};
+use report::{accepted_line, refused_at, refused_line, taken_line};
 use std::alloc::{AllocError, Global};
 use stream::Command;
 
@@ -46,6 +46,6 @@ pub(crate) fn line(
         Ok(Reply::Accepted { welfare, rent }) => {
             accepted_line(heap, offset, letter, welfare, rent, zero, one)
         }
-        Err(refusal) => refused_line(heap, &refused(offset, letter, refusal)),
+        Err(refusal) => refused_line(heap, &refused_at(offset, letter, refusal)),
     }
 }

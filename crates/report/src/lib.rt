@@ -7,7 +7,7 @@ ghost use Rattle.report.specs.Lines.{accepted_text, refused_text, stream_fault, 
 
 use auction::Refusal;
 use std::alloc::{AllocError, Global};
-use stream::ReadFault;
+use stream::{Item, ReadFault};
 
 /// A command that was refused: its letter, and why.
 #[derive(Clone, Copy)]
@@ -38,8 +38,21 @@ impl From<ReadFault> for StreamFault {
     }
 }
 
-/// The refusal of a command, with its place in the stream and its letter.
-pub fn refused(offset: usize, letter: u8, refusal: Refusal) -> StreamFault
+/// The refusal of the command that an item of the stream holds.
+pub fn refused(item: &Item, refusal: Refusal) -> StreamFault
+    ensures { result ≡ stream_fault item.now.offset item.now.letter refusal }
+{
+    StreamFault {
+        offset: item.offset,
+        command: CommandFault {
+            letter: item.letter,
+            refusal,
+        },
+    }
+}
+
+/// The refusal of a command with this place in the stream and this letter.
+pub fn refused_at(offset: usize, letter: u8, refusal: Refusal) -> StreamFault
     ensures { result ≡ stream_fault offset letter refusal }
 {
     StreamFault {
