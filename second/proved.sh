@@ -1,14 +1,5 @@
 # For scripts that run at the top of the repository and tell what the proved programs say (source it there).
 
-# Build the proved programs if they are missing.
-proved() {
-    if [[ ! -x target/bin/hour || ! -x target/bin/to_bytes ]]; then
-        echo "building hour and to_bytes (proved first, some minutes)" >&2
-        mkdir -p target
-        rt check hour to_bytes >target/judge.log 2>&1 || { tail -n 5 target/judge.log >&2; exit 1; }
-    fi
-}
-
 # built SOURCE: build a plain program into target/second if it is older than any source.
 built() {
     local program source
@@ -25,13 +16,13 @@ built() {
 # heard KIND FILE: the stream of a readable FILE, or FILE itself if KIND is --stream, and what the program prints for it,
 # in $work/stream and $work/lines.
 heard() {
-    proved
+    tools/build month to_bytes
     work=$(mktemp -d)
     trap 'rm -r "$work"' EXIT
     if [[ $1 == --stream ]]; then
         cp "$2" "$work/stream"
     else
-        target/bin/to_bytes <"$2" >"$work/stream"
+        crates/to_bytes/out/to_bytes <"$2" >"$work/stream"
     fi
-    target/bin/hour <"$work/stream" >"$work/lines"
+    crates/month/out/month <"$work/stream" >"$work/lines"
 }

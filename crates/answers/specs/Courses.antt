@@ -61,6 +61,14 @@ pub record BlockEnded (bytes : List ℕ) (ground : Ground) (bytes' : List ℕ) (
   pub block_read : BlockRead bytes at block ground
   pub stands : MatchBool (opened_ground ground) ((bytes' ≡ bytes) × (at' ≡ at) × (text' ≡ block)) (Ended bytes at block text')
 
+-- The lines of the network block of a stream: up to the command that opened the box, with nothing after it, or up to where reading ended.
+pub record BlockAnswered (bytes text : List ℕ) : Type 0 where
+  pub ground : Ground
+  pub at : ℕ
+  pub block : List ℕ
+  pub block_read : BlockRead bytes at block ground
+  pub rest : MatchBool (opened_ground ground) (text ≡ block) (Ended bytes at block text)
+
 -- the hours over the network that a block gave; nothing more is read where it did not open the box
 abbrev pub HoursIfOpened : StreamKinds → Ground → List ℕ → ℕ → List ℕ → List ℕ → Type 0
 HoursIfOpened k ground bytes at before after = MatchBool (opened_ground ground) (HoursAnswered k (ground_grid ground) bytes at before after) (after ≡ before)

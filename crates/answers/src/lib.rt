@@ -1,11 +1,11 @@
-//! The answer to a whole stream: a line for each command.
+//! The answers to a stream: a line for each command of its network block, or of the whole.
 #![tactic(auto)]
 
 mod course;
 
 ghost use Rattle.std.specs.Prelude.{take, IfOk, string_bytes, OnOk};
 ghost use Rattle.one_answer.specs.Power.{power_kinds};
-ghost use Rattle.answers.specs.Courses.{HoursIfOpened, StreamAnswered};
+ghost use Rattle.answers.specs.Courses.{BlockAnswered, HoursIfOpened, StreamAnswered};
 
 use crate::course::read_block;
 use ground::Ground;
@@ -52,8 +52,18 @@ fn hear(
     }
 }
 
-/// A line for each command of the stream: those of the network block, and once it opened the box those of the hours.
+/// A line for each command of the network block, up to the one that opens the box.
 pub fn answers(heap: Global, stream: &[u8]) -> Result<String, AllocError>
+    ensures { IfOk result (λ text. BlockAnswered (take 65536 stream.now) (string_bytes text)) }
+{
+    let mut lines = String::new(heap);
+    let mut reader = Reader::new(stream);
+    let _ground = read_block(heap, &mut lines, &mut reader)?;
+    Ok(lines)
+}
+
+/// A line for each command of the stream: those of the network block, and once it opened the box those of the hours.
+pub fn stream_answers(heap: Global, stream: &[u8]) -> Result<String, AllocError>
     ensures { IfOk result (λ text. StreamAnswered power_kinds (take 65536 stream.now) (string_bytes text)) }
 {
     let mut lines = String::new(heap);

@@ -55,6 +55,13 @@ impl<N: Network> Layered<N> {
         }
     }
 
+    /// The network with its layers.
+    pub fn network(&self) -> &HeldBack<Monitored<N>>
+        ensures { result.now ≡ self.now.network }
+    {
+        &self.network
+    }
+
     /// The network with its layers, once the block is read.
     pub fn into_network(self) -> HeldBack<Monitored<N>>
         ensures { result ≡ self.network }

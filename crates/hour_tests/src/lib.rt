@@ -3,7 +3,7 @@
 
 #[cfg(test)]
 mod tests {
-    use answers::answers;
+    use answers::{answers, stream_answers};
     use clearing::ClearingBox;
     use kinds::{Bids, Offers, Transfers};
     use layers::{HeldBack, Monitored};
@@ -21,6 +21,15 @@ mod tests {
         Ok(lines)
     }
 
+    // The same, with those of the hours.
+    fn all_lines_of(rt: &HostRuntime, text: &str) -> Result<String, Fail> {
+        let Ok(stream) = to_bytes(rt.alloc(), text.as_bytes()) else {
+            return Err(Fail::new("the text is not readable"));
+        };
+        let lines = stream_answers(rt.alloc(), stream.as_slice())?;
+        Ok(lines)
+    }
+
     // A refused monitored line leaves the table open for rows; the first accepted one does not.
     #[test]
     fn table_and_layers(rt: HostRuntime) -> Result<(), Fail> {
@@ -35,10 +44,21 @@ mod tests {
         Ok(())
     }
 
-    // A tree of one zone is whole at once; once the box is open the network block is over.
+    // A tree of one zone is whole at once; reading ends after the box is open.
     #[test]
     fn one_zone(rt: HostRuntime) -> Result<(), Fail> {
-        let lines = lines_of(
+        let lines = lines_of(&rt, "Z 1; K 0 1 1; Y 1; H 0 0; V 0 0; H 0 1; H 1 1; G; Z 1")?;
+        assert!(rt;
+            lines.as_str()
+                == "0 Z ok\n2 K refused 4 0 0\n12 Y refused 4 0 0\n14 H refused 5 0 0\n20 V ok\n73 H ok\n79 H refused 5 0 0\n85 G ok\n"
+        );
+        Ok(())
+    }
+
+    // Once the box is open the network block is over.
+    #[test]
+    fn after_the_block(rt: HostRuntime) -> Result<(), Fail> {
+        let lines = all_lines_of(
             &rt,
             "Z 1; K 0 1 1; Y 1; H 0 0; V 0 0; H 0 1; H 1 1; G; Z 1; Z 0",
         )?;
@@ -66,7 +86,7 @@ mod tests {
     // The worked hour of docs/RULES.md: house 0 is paid 240 cents, house 1 pays 300, and 60 are congestion rent.
     #[test]
     fn worked_hour(rt: HostRuntime) -> Result<(), Fail> {
-        let lines = lines_of(
+        let lines = all_lines_of(
             &rt,
             "Z 2; K 0 40 30; G; O 0 0 3000 100; O 0 1 5000 50; B 1 1 9000 60; C 0; A 0 0 0 30; A 0 0 1 30; A 0 1 0 60; L 0 3000000; M 0 1 2000; Q 0; S 0",
         )?;
@@ -80,7 +100,7 @@ mod tests {
     // An order takes 1 to 10,000,000 kWh, and all standing orders together 10,000,000; a withdrawn one counts no more, and is nobody's to withdraw again.
     #[test]
     fn quantities(rt: HostRuntime) -> Result<(), Fail> {
-        let lines = lines_of(
+        let lines = all_lines_of(
             &rt,
             "Z 1; G; O 0 0 1 0; O 0 0 1 10000001; O 0 0 1 10000000; B 1 0 1 1; W 1 0 0; W 0 0 0; W 0 0 0; B 1 0 1 1; W 2 1 0; W 1 3 0; T 0 0 0 1 1",
         )?;

@@ -4,7 +4,6 @@
 #[cfg(test)]
 mod tests {
     use auction::Fault;
-    use auction::bounds::MOST_ZONES;
     use layers::{HeldBack, Monitored};
     use network::Network;
     use std::process::Abort;
@@ -13,8 +12,8 @@ mod tests {
     use tree::Tree;
 
     // Sensitivities for the first four zones, and 0 for the others.
-    fn four(a: i16, b: i16, c: i16, d: i16) -> [i16; MOST_ZONES] {
-        let mut all = [0; MOST_ZONES];
+    fn four(a: i16, b: i16, c: i16, d: i16) -> [i16; 24] {
+        let mut all = [0; 24];
         all[0] = a;
         all[1] = b;
         all[2] = c;
@@ -107,7 +106,7 @@ mod tests {
     #[test]
     fn refused_rows(rt: HostRuntime) -> Result<(), Fail> {
         let mut net = pile()?;
-        let mut fifth = [0; MOST_ZONES];
+        let mut fifth = [0; 24];
         fifth[4] = 1;
         // there is no zone 4; that is asked before the limit
         assert_eq!(rt; net.watch(10_000_001, fifth), Err(Fault::Missing));
