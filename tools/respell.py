@@ -96,7 +96,7 @@ def seen_in(text, name):
 
 
 def spans(text, turned):
-    return re.sub(r"`[^`\n]*`", lambda m: words(m[0].replace("`", "` "), turned).replace("` ", "`"), text)
+    return re.sub(r"`[^`\n]*`", lambda m: "`" + words(m[0][1:-1], turned) + "`", text)
 
 
 def respelled(path, text, turned):
