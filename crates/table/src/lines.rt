@@ -1,11 +1,7 @@
 //! The network that a table is.
 
 ghost use Rattle.table.specs.Tables.{table_grid};
-ghost use Rattle.std.proofs.Common.{arith, rules};
-ghost use Rattle.network.proofs.Lines.{lines_length, lines_limited, lines_sensitive, masked};
-ghost use Rattle.std.specs.Prelude.{ltb, get_or};
-ghost use Rattle.auction.specs.Grids.{no_line};
-ghost use Rattle.network.specs.Rows.{lines_of};
+ghost use Rattle.table.specs.Sized.{table_zoned, table_few_zones, table_few_lines, table_limited, table_sensitive};
 
 use super::Table;
 use network::Network;
@@ -13,15 +9,15 @@ use network::Network;
 impl Network for Table {
     ghost grid = { table_grid };
 
-    ghost zoned = { first_of (Prim.search rules, Prim.grind (arith, Self.row.coded.inj)) };
+    ghost zoned = { table_zoned };
 
-    ghost fewzones = { first_of (Prim.search rules, Prim.grind (arith, Self.row.coded.inj)) };
+    ghost fewzones = { table_few_zones };
 
-    ghost fewlines = { λ t. omega (arith, lines_length t.rows.count t.rows.rows (omega arith)) };
+    ghost fewlines = { table_few_lines };
 
-    ghost limited = { λ t l. lines_limited t.rows.count t.rows.rows l };
+    ghost limited = { table_limited };
 
-    ghost sensitive = { λ t l z. masked (ltb z t.zones) ((get_or (lines_of t.rows.count t.rows.rows) l no_line).sensitivity z) (lines_sensitive t.rows.count t.rows.rows l z) };
+    ghost sensitive = { table_sensitive };
 
     fn zones(&self) -> usize {
         self.zones
