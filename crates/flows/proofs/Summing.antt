@@ -1,5 +1,5 @@
 -- A running sum of terms of which each is at most so large.
-use Rattle.std.proofs.Common.{◌≡◌, ℕ, zero, suc, ◌+◌, ◌-◌, ◌*◌, ◌<◌, ◌≤◌, ℤ, pos, ◌+ℤ◌, nat_abs, sym, refl, ap, ◌∙◌, subst, mul-le-mul_left, mul-suc, add-one, arith}
+use Rattle.std.proofs.Common.{◌≡◌, ℕ, zero, suc, ◌+◌, ◌*◌, ◌≤◌, ℤ, pos, ◌+ℤ◌, nat_abs, sym, refl, ap, ◌∙◌, subst, mul-le-mul_left, mul-suc, add-one, arith}
 use borrow.Author.Differences.{ints}
 use Rattle.auction.specs.Sums.{Σ}
 

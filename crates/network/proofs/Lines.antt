@@ -1,5 +1,5 @@
 -- The lines of a list of rows: how many there are, which stands where, and one more.
-use Rattle.std.proofs.Common.{◌≡◌, ℕ, zero, suc, ◌+◌, ◌<◌, ◌≤◌, Bool, true, false, cond, List, [], ◌∷◌, ◌++◌, map, length, get_or, take, set, ℤ, pos, nat_abs, sym, refl, ap, ◌∙◌, arith}
+use Rattle.std.proofs.Common.{◌≡◌, ℕ, zero, suc, ◌+◌, ◌<◌, ◌≤◌, Bool, true, false, cond, List, [], ◌∷◌, ◌++◌, map, length, get_or, take, set, ℤ, pos, nat_abs, ap, ◌∙◌, arith}
 use Rattle.std.proofs.lemmas.List.{length-map, length-take-le, get_or_past, get_or-map, get_or-take, take_more_set, map_push}
 use Rattle.auction.specs.Grids.{Line, no_line}
 use Rattle.auction.specs.Bounds.{most_kwh, most_sensitivity}

@@ -1,5 +1,5 @@
 -- What a sheet proposes: a dispatch and prices.
-use Rattle.std.specs.Prelude.{◌≡◌, ℕ, zero, suc, ◌<◌, ◌≤◌, cond, ◌&&◌, List, [], ◌==◌, slice_index}
+use Rattle.std.specs.Prelude.{ℕ, zero, suc, cond, ◌&&◌, List, [], ◌==◌, slice_index}
 use Rattle.auction.specs.Hours.{Dispatch, Prices}
 use Rattle.sheets.specs.declared.sheet.Sheet.{Sheet}
 

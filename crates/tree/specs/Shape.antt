@@ -1,16 +1,16 @@
 -- The grid of a tree is the network that the tree means.
-use Rattle.std.specs.Prelude.{◌≡◌, ℕ, ◌+◌, ◌-◌, ◌*◌, ◌/◌, ◌%◌, ◌<◌, ◌≤◌, Bool, true, false, cond, List, length, get_or, take, set, pos, neg_ℤ, ◌≢◌, nat_eq, nat_lt, slice_index_or, slice_set, unsigned_abs, refl}
+use Rattle.std.specs.Prelude.{◌≡◌, ℕ, ◌+◌, ◌-◌, ◌*◌, ◌/◌, ◌%◌, ◌<◌, ◌≤◌, true, false, List, length, get_or, take, set, pos, neg_ℤ, ◌≢◌, nat_eq, nat_lt, slice_index_or, slice_set, unsigned_abs, refl}
 use Rattle.std.proofs.Common.{sym, ap, subst, ◌∙◌, ⊎_elim, arith, eq-eqb}
 use Rattle.std.proofs.lemmas.List.FromFn.{length-map-range_with_len, get_or-map-range_with_len}
 use Rattle.std.proofs.lemmas.List.{get_or_past, get_or-take, get_or-set_same, get_or-set_other, length-take-le}
-use Rattle.std.proofs.lemmas.Bool.{cases_lt, cases_eq, cases_Bool}
+use Rattle.std.proofs.lemmas.Bool.{cases_lt, cases_eq}
 use Rattle.std.proofs.lemmas.Bool.Decides.{nat_tests}
 use Rattle.std.proofs.lemmas.Int.{ints}
-use Rattle.auction.specs.Bounds.{most_kwh}
-use Rattle.auction.specs.Grids.{Line, Grid, no_line, line_count, limit_at, sensitivity_at}
+use Rattle.auction.specs.Bounds.{most_zones, most_lines, most_kwh}
+use Rattle.auction.specs.Grids.{Line, no_line, line_count, limit_at, sensitivity_at}
 use Rattle.tree.specs.declared.grown.Link.{Link}
 use Rattle.tree.specs.declared.grown.Tree.{Tree}
-use Rattle.tree.specs.Links.{most_links, link_of, no_link, zone_count, Descends}
+use Rattle.tree.specs.Links.{most_links, no_link, zone_count, Descends}
 use Rattle.tree.specs.Trees.{links_of, share, line_to_parent, line_to_child, tree_line, tree_lines, tree_grid, TreeShaped}
 use Rattle.tree.specs.Descent.{Rooted, rooted_take, share_below, share_elsewhere, share_in_range}
 
@@ -108,6 +108,16 @@ tree_shaped links rooted =
 
 pub link_count : (t : Tree) → length (links_of t) ≡ t.count
 link_count t = length-take-le t.count t.links (omega arith)
+
+-- how many zones and lines a tree has
+pub tree_zoned : (t : Tree) → 1 ≤ (tree_grid (links_of t)).zones
+tree_zoned t = omega arith
+
+pub tree_few_zones : (t : Tree) → (tree_grid (links_of t)).zones ≤ most_zones
+tree_few_zones t = omega (arith, link_count t)
+
+pub tree_few_lines : (t : Tree) → line_count (tree_grid (links_of t)) ≤ most_lines
+tree_few_lines t = omega (arith, lines_is (links_of t), link_count t)
 
 pub rooted : (t : Tree) → Rooted (links_of t)
 rooted t = rooted_take t.count t.links t.parents

@@ -5,8 +5,7 @@ ghost use Rattle.auction.specs.Bounds.{most_sensitivity};
 ghost use Rattle.tree.specs.Links.{link_of, Descends};
 ghost use Rattle.tree.specs.Trees.{links_of, share, tree_grid};
 ghost use Rattle.tree.specs.Ways.{Leads};
-ghost use Rattle.std.proofs.Common.{arith, rules};
-ghost use Rattle.tree.specs.Shape.{link_count, lines_is, limit_in_range, sensitivity_in_range};
+ghost use Rattle.tree.specs.Shape.{tree_zoned, tree_few_zones, tree_few_lines, limit_in_range, sensitivity_in_range};
 
 use super::grown::{Link, Tree};
 use auction::bounds::MOST_SENSITIVITY;
@@ -68,13 +67,13 @@ impl Tree {
 impl Network for Tree {
     ghost grid = { λ t. tree_grid (links_of t) };
 
-    ghost zoned = { first_of (Prim.search rules, Prim.grind (arith, Self.row.coded.inj)) };
+    ghost zoned = { tree_zoned };
 
-    ghost fewzones = { first_of (Prim.search rules, Prim.grind (arith, Self.row.coded.inj)) };
+    ghost fewzones = { tree_few_zones };
 
-    ghost fewlines = { λ t. omega (arith, lines_is (links_of t), link_count t) };
+    ghost fewlines = { tree_few_lines };
 
-    ghost limited = { λ t l. limit_in_range t l };
+    ghost limited = { limit_in_range };
 
     ghost sensitive = { λ t l z. sensitivity_in_range (links_of t) l z };
 

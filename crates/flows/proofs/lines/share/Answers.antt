@@ -10,5 +10,5 @@ returns g c =
     let sens : to_z w32 (of_z w32 (to_z w16 (of_z w16 c.sensitivity.result))) ≡ c.sensitivity.result = omega (arith, ints) in
     let net : to_z w32 (of_z w32 c.args.net) ≡ c.args.net = omega (arith, ints) in
     let s = sensitivity_at (g.N.Network.grid c.args.network.now) c.args.line c.args.zone in
-    let value : to_z w64 (of_z w64 c.times.result) ≡ s *ℤ c.args.net = to_z-of_z w64 _ (record { sfits = c.times.type-inv }) ∙ c.times.ensures ∙ (λ i. (sens ∙ c.sensitivity.ensures) i *ℤ net i) in
+    let value : to_z w64 (of_z w64 c.times.result) ≡ s *ℤ c.args.net = to_z-of_z w64 _ (record { sfits = c.times.type_inv }) ∙ c.times.ensures ∙ (λ i. (sens ∙ c.sensitivity.ensures) i *ℤ net i) in
     record { value = value; bound = subst (λ (x : ℤ). nat_abs x ≤ 1000 * 2 ^ 31) (sym value) (product_small s c.args.net 1000 (2 ^ 31) (g.met.N.Network.sensitive c.args.network.now c.args.line c.args.zone) (omega (arith, ints))) }

@@ -1,4 +1,4 @@
-use Rattle.std.proofs.Common.{◌≡◌, ◌^◌, ◌≤◌, ◌*ℤ◌, nat_abs, sym, ap, ◌∙◌, subst, arith, w32, w64, SFits, to_z, of_z}
+use Rattle.std.proofs.Common.{◌≡◌, ◌*ℤ◌, sym, ap, ◌∙◌, subst, arith, w32, w64, SFits, to_z, of_z}
 use borrow.Author.Differences.{ints}
 use Rattle.std.proofs.lemmas.Int.{to_z-of_z}
 use Rattle.flows.proofs.Products.{product_fits}
@@ -14,8 +14,8 @@ same c =
 fits : (c : goal.Start) → SFits w64 (c.args.a *ℤ c.args.b)
 fits c = product_fits c.args.a c.args.b (omega (arith, ints)) (omega (arith, ints))
 
-pub overflow-mul-result : goal.overflow-mul-result
-overflow-mul-result c = subst (SFits w64) (sym (same c)) (fits c)
+pub overflow_mul-result : goal.overflow_mul-result
+overflow_mul-result c = subst (SFits w64) (sym (same c)) (fits c)
 
 pub returns : goal.returns
 returns c = ap (λ x. to_z w64 (of_z w64 x)) (same c) ∙ to_z-of_z w64 (c.args.a *ℤ c.args.b) (fits c)

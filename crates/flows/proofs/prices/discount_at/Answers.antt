@@ -11,6 +11,6 @@ returns g c =
     let sens : to_z w32 (of_z w32 (to_z w16 (of_z w16 c.sensitivity.result))) ≡ c.sensitivity.result = omega (arith, ints) in
     let shadow = (prices_of c.args.sheet.now).shadow c.args.line in
     let s = sensitivity_at (g.N.Network.grid c.args.network.now) c.args.line c.args.zone in
-    let price : to_z w32 (of_z w32 c.shadow-price-of.result) ≡ pos shadow = omega (arith, ints) in
-    let value : to_z w64 (of_z w64 c.times.result) ≡ pos shadow *ℤ s = to_z-of_z w64 _ (record { sfits = c.times.type-inv }) ∙ c.times.ensures ∙ (λ i. price i *ℤ (sens ∙ c.sensitivity.ensures) i) in
+    let price : to_z w32 (of_z w32 c.shadow_price_of.result) ≡ pos shadow = omega (arith, ints) in
+    let value : to_z w64 (of_z w64 c.times.result) ≡ pos shadow *ℤ s = to_z-of_z w64 _ (record { sfits = c.times.type_inv }) ∙ c.times.ensures ∙ (λ i. price i *ℤ (sens ∙ c.sensitivity.ensures) i) in
     record { value = value; bound = subst (λ (x : ℤ). nat_abs x ≤ 1000000000) (sym value) (product_small (pos shadow) s 1000000 1000 (c.args.sheet.now.bounded c.args.line) (g.met.N.Network.sensitive c.args.network.now c.args.line c.args.zone)) }

@@ -13,7 +13,7 @@ plus-total-requires g c =
     (omega (arith, ints), omega (arith, ints))
 
 pub loop-line-preserved : goal.loop-line-preserved
-loop-line-preserved g c = summed_next _ 1000000000 c.loop-line.line _ c.discount-at.result _ c.loop-line.invariant c.discount-at.ensures.value c.discount-at.ensures.bound (omega (arith, ints))
+loop-line-preserved g c = summed_next _ 1000000000 c.loop-line.line _ c.discount_at.result _ c.loop-line.invariant c.discount_at.ensures.value c.discount_at.ensures.bound (omega (arith, ints))
 
 pub returns : goal.returns
 returns g c =

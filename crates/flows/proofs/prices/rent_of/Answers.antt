@@ -14,7 +14,7 @@ plus-total-requires g c =
     (omega (arith, ints), omega (arith, ints))
 
 pub loop-line-preserved : goal.loop-line-preserved
-loop-line-preserved g c = summed_next _ 10000000000000000 c.loop-line.line _ c.line-rent-of.result _ c.loop-line.invariant c.line-rent-of.ensures.value c.line-rent-of.ensures.bound (omega (arith, ints))
+loop-line-preserved g c = summed_next _ 10000000000000000 c.loop-line.line _ c.line_rent_of.result _ c.loop-line.invariant c.line_rent_of.ensures.value c.line_rent_of.ensures.bound (omega (arith, ints))
 
 pub returns : goal.returns
 unfolding exact_rent

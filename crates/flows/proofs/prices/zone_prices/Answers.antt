@@ -12,16 +12,16 @@ loop-zone-init g c = priced_start _ _
 pub loop-zone-preserved : goal.loop-zone-preserved
 loop-zone-preserved g c =
     let few = g.met.N.Network.fewzones c.args.network.now in
-    let ranged = c.if-not-in-range.ensures.0 refl in
-    let wide = to_z-of_z w64 c.price-of-price.result (record { sfits = c.price-of-price.type-inv }) in
+    let ranged = c.if-not-in_range.ensures.0 refl in
+    let wide = to_z-of_z w64 c.price_of-price.result (record { sfits = c.price_of-price.type_inv }) in
     priced_next _ _ c.loop-zone.zone c.loop-zone.prices _ c.loop-zone.invariant (omega arith)
-    (narrowed c.price-of-price.result c.price-of-price.type-inv ranged ∙ c.price-of-price.ensures)
-    (subst ZonePriceInRange (wide ∙ c.price-of-price.ensures) ranged)
+    (narrowed c.price_of-price.result c.price_of-price.type_inv ranged ∙ c.price_of-price.ensures)
+    (subst ZonePriceInRange (wide ∙ c.price_of-price.ensures) ranged)
 
-pub returns-then-not-in-range : goal.returns-then-not-in-range
-returns-then-not-in-range g c =
-    let wide = to_z-of_z w64 c.price-of-price.result (record { sfits = c.price-of-price.type-inv }) in
-    (omega arith, c.loop-zone.invariant.in_range, λ ranged. not_from_Decides c.in_range.result c.in_range.ensures c.if-not-in-range.true (subst ZonePriceInRange (sym (wide ∙ c.price-of-price.ensures)) ranged))
+pub returns-then-not-in_range : goal.returns-then-not-in_range
+returns-then-not-in_range g c =
+    let wide = to_z-of_z w64 c.price_of-price.result (record { sfits = c.price_of-price.type_inv }) in
+    (omega arith, c.loop-zone.invariant.in_range, λ ranged. not_from_Decides c.in_range.result c.in_range.ensures c.if-not-in_range.true (subst ZonePriceInRange (sym (wide ∙ c.price_of-price.ensures)) ranged))
 
 pub returns : goal.returns
 returns g c = priced_all _ _ c.loop-zone.zone c.loop-zone.prices c.loop-zone.invariant (omega arith)

@@ -6,4 +6,10 @@ use Rattle.sheets.proofs.sheet.Sheet.fill_shadow_price.Goals as goal
 pub invariant_of-self : goal.invariant_of-self
 invariant_of-self c =
     let s = c.args.self.now in
-    (s.firsts, (s.seconds, (s.thirds, (length-set s.shadow c.args.line c.args.price ∙ s.shadows, (set_small s.shadow c.args.line c.args.price 1000000 s.bounded (omega arith), tt)))))
+    record {
+      firsts = s.firsts;
+      seconds = s.seconds;
+      thirds = s.thirds;
+      shadows = length-set s.shadow c.args.line c.args.price ∙ s.shadows;
+      bounded = set_small s.shadow c.args.line c.args.price 1000000 s.bounded (omega arith);
+    }

@@ -1,7 +1,7 @@
-use Rattle.std.proofs.Common.{◌≡◌, ◌-◌, ◌<◌, sym, ap, subst, arith, eq-eqb}
+use Rattle.std.proofs.Common.{◌-◌, sym, ap, subst, arith, eq-eqb}
 use Rattle.std.proofs.lemmas.Bool.Decides.{Decides-eqb}
 use Rattle.tree.specs.declared.grown.Link.{Link}
-use Rattle.tree.specs.Links.{link_of, no_link, Descends, here, from}
+use Rattle.tree.specs.Links.{Descends, here, from}
 use Rattle.tree.specs.Trees.{links_of}
 use Rattle.tree.specs.Descent.{descends_le, by_parent}
 use Rattle.tree.specs.Shape.{rooted, link_read}
