@@ -1,8 +1,9 @@
 -- The entries that rows mean, read and changed as the rows are.
 use Rattle.std.specs.Prelude.{◌≡◌, ℕ, zero, suc, ◌+◌, ◌<◌, ◌≤◌, true, cond, List, [], ◌∷◌, ◌++◌, map, length, Some, None, Ok, Err, Option, Result, MatchOption, slice_index_or, refl}
 use Rattle.std.proofs.Common.{sym, ap, subst, ◌∙◌, arith}
+use Rattle.auction.specs.Bounds.{most_orders, most_kwh}
 use Rattle.auction.specs.Sums.{Σℕ}
-use Rattle.std.proofs.lemmas.List.{length-map, map_push, get_or_past}
+use Rattle.std.proofs.lemmas.List.{length-map, length-take, map_push, get_or_past}
 use Rattle.auction.specs.declared.House.{House}
 use Rattle.auction.specs.declared.House.TheVariants.{Zero, One}
 use Rattle.auction.specs.declared.Fault.{Fault}
@@ -13,9 +14,10 @@ use Rattle.auction.specs.Orders.{Order, Sound}
 use Rattle.auction.specs.Hours.{Entry, no_entry}
 use Rattle.orders.specs.Reads.{entry, standing_largest, standing_kwh, without, PlaceLeft}
 use Rattle.rows.specs.declared.row.Row.{Row}
+use Rattle.rows.specs.declared.table.Rows.{Rows}
 use Rattle.rows.specs.Bounds.{InRange}
 use Rattle.rows.specs.Kwh.{no_row, row_kwh, rows_kwh}
-use Rattle.rows.specs.Rows.{Ranged, row_at, rows_without, entered, Room}
+use Rattle.rows.specs.Rows.{Ranged, used, row_at, rows_without, entered, Room}
 use Rattle.listed.specs.Entries.{ByNumbers, order_by, entry_by, NoneEntered, RowEntered}
 
 -- the largest quantity is the quantity of the row
@@ -62,6 +64,13 @@ kwh_entries m s (r ∷ rs) =
     Σℕ_first (length (map (entry_by m) rs)) (λ n. standing_largest (entry (map (entry_by m) (r ∷ rs)) n))
     ∙ ap (λ x. cond r.standing x 0 + standing_kwh (map (entry_by m) rs)) (s r.first r.second r.price r.quantity)
     ∙ ap (λ x. row_kwh r + x) (kwh_entries m s rs)
+
+-- rows are few, and so are the kWh that stand in them
+pub few_entries : (m : ByNumbers) (t : Rows) → length (map (entry_by m) (used t)) ≤ most_orders
+few_entries m t = simp (length-map, length-take) (omega arith)
+
+pub modest_entries : (m : ByNumbers) → Sized m → (t : Rows) → standing_kwh (map (entry_by m) (used t)) ≤ most_kwh
+modest_entries m s t = let e = kwh_entries m s (used t) in omega (arith, t.summed, t.modest)
 
 pub without_entries : (m : ByNumbers) (rs : List Row) (n : ℕ) → without (map (entry_by m) rs) n ≡ map (entry_by m) (rows_without rs n)
 without_entries m [] n = refl

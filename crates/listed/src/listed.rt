@@ -3,10 +3,8 @@
 ghost use Rattle.std.specs.Prelude.{◌≡◌, ◌<◌, [], length, MatchOption};
 ghost use Rattle.orders.specs.Reads.{entry};
 ghost use Rattle.listed.specs.Entries.{NoneEntered, RowEntered, entries_by};
-ghost use Rattle.std.proofs.Common.{arith};
-ghost use Rattle.std.proofs.lemmas.List.{length-map, length-take};
 ghost use Rattle.rows.specs.Rows.{used};
-ghost use Rattle.listed.specs.Entered.{kwh_entries, housed_entries, sound_entries};
+ghost use Rattle.listed.specs.Entered.{few_entries, modest_entries, housed_entries, sound_entries};
 ghost use Rattle.rows.proofs.Held.{in_range_used};
 
 use super::Kind;
@@ -63,9 +61,9 @@ impl<K: Kind> OrderList for Listed<K> {
 
     ghost ranged = { K.Kind.fitting };
 
-    ghost few = { λ s. simp (length-map, length-take) (omega arith) };
+    ghost few = { λ s. few_entries K.Kind.meant s.rows };
 
-    ghost modest = { λ s. let e = kwh_entries K.Kind.meant K.Kind.sized (used s.rows) in omega (arith, s.rows.summed, s.rows.modest) };
+    ghost modest = { λ s. modest_entries K.Kind.meant K.Kind.sized s.rows };
 
     ghost housed = { λ s n. housed_entries K.Kind.meant (used s.rows) n };
 

@@ -1,5 +1,5 @@
 -- What is read of a list of orders, and how it changes.
-use Rattle.std.specs.Prelude.{◌≡◌, ℕ, zero, suc, ◌+◌, ◌<◌, ◌≤◌, Bool, true, false, cond, List, [], ◌∷◌, length, ℤ, pos, slice_index_or}
+use Rattle.std.specs.Prelude.{◌≡◌, ℕ, zero, suc, ◌+◌, ◌<◌, ◌≤◌, false, cond, List, [], ◌∷◌, length, ℤ, pos, slice_index_or}
 use Rattle.auction.specs.Bounds.{most_zones, most_orders, most_kwh}
 use Rattle.auction.specs.Sums.{Σℕ}
 use Rattle.auction.specs.Orders.{Order, Possible, ZonePrices, Content}

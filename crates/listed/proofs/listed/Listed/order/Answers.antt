@@ -5,4 +5,4 @@ use Rattle.listed.proofs.listed.Listed.order.Goals as goal
 
 pub returns-in-Some : goal.returns-in-Some
 returns-in-Some g c =
-    order_some g.K.Kind.meaning g.K.Kind.meant (entries_by g.K.Kind.meant c.args.self.now.rows) c.args.number c.in-Some.row c.in-Some.ensures c.of-row.result (search rules)
+    order_some g.K.Kind.meaning g.K.Kind.meant (entries_by g.K.Kind.meant c.args.self.now.rows) c.args.number c.in-Some.row c.in-Some.ensures c.of_row.result (search rules)

@@ -21,7 +21,15 @@ invariant_of-self c =
     let cheap = all_replaced (λ r. r.price ≤ most_price) before.count before.rows before.cheap c.args.number fallen there (before.cheap c.args.number used) in
     let some = all_replaced (λ r. 0 < r.quantity) before.count before.rows before.some c.args.number fallen there (before.some c.args.number used) in
     let small = all_replaced (λ r. r.quantity ≤ most_kwh) before.count before.rows before.small c.args.number fallen there (before.small c.args.number used) in
-    (omega arith, (simp length-set (omega arith), (λ k l. omega (arith, cheap k l), (λ k l. omega (arith, some k l), (λ k l. omega (arith, small k l), (omega arith, (omega arith, tt)))))))
+    record {
+      few = omega arith;
+      full = simp length-set (omega arith);
+      cheap = λ k l. omega (arith, cheap k l);
+      some = λ k l. omega (arith, some k l);
+      small = λ k l. omega (arith, small k l);
+      summed = omega arith;
+      modest = omega arith;
+    }
 
 pub returns : goal.returns
 returns c = without_set c.args.self.now.count c.args.self.now.rows c.args.number no_row (omega arith)

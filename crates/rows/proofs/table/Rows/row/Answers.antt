@@ -1,4 +1,4 @@
-use Rattle.std.proofs.Common.{sym, arith, rules}
+use Rattle.std.proofs.Common.{sym, arith}
 use Rattle.rows.proofs.Held.{row_at_used, row_at_past}
 use Rattle.rows.specs.Kwh.{no_row}
 use Rattle.rows.proofs.table.Rows.row.Goals as goal

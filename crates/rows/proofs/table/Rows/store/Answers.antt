@@ -16,7 +16,15 @@ invariant_of-self c =
     let cheap = all_more (λ r. r.price ≤ most_price) before.count before.rows before.cheap (entered c.args.row) there (omega arith) in
     let some = all_more (λ r. 0 < r.quantity) before.count before.rows before.some (entered c.args.row) there (omega arith) in
     let small = all_more (λ r. r.quantity ≤ most_kwh) before.count before.rows before.small (entered c.args.row) there (omega arith) in
-    (omega arith, (simp length-set (omega arith), (λ k l. omega (arith, cheap k (omega arith)), (λ k l. omega (arith, some k (omega arith)), (λ k l. omega (arith, small k (omega arith)), (omega arith, (omega arith, tt)))))))
+    record {
+      few = omega arith;
+      full = simp length-set (omega arith);
+      cheap = λ k l. omega (arith, cheap k (omega arith));
+      some = λ k l. omega (arith, some k (omega arith));
+      small = λ k l. omega (arith, small k (omega arith));
+      summed = omega arith;
+      modest = omega arith;
+    }
 
 pub returns : goal.returns
 returns c = search (rules, take_more_set)
