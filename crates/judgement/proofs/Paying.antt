@@ -1,5 +1,5 @@
 -- What an order is paid in the zones so far, and how large it can get.
-use Rattle.std.proofs.Common.{◌≡◌, ℕ, zero, suc, ◌+◌, ◌*◌, ◌^◌, ◌<◌, ◌≤◌, List, get_or, ℤ, pos, ◌+ℤ◌, ◌*ℤ◌, nat_abs, sym, refl, ap, ◌∙◌, subst, mul-le-mul_left, mul-add, add-one, arith}
+use Rattle.std.proofs.Common.{◌≡◌, ℕ, suc, ◌+◌, ◌*◌, ◌^◌, ◌≤◌, List, get_or, ℤ, pos, ◌+ℤ◌, ◌*ℤ◌, nat_abs, sym, refl, ap, ◌∙◌, subst, add-one, arith}
 use borrow.Author.Differences.{ints}
 use Rattle.auction.specs.Sums.{Σ, Σℕ}
 use Rattle.auction.specs.Orders.{Order, Possible, Sound}

@@ -1,5 +1,5 @@
 -- A running sum over the orders of a list, and how large it can get.
-use Rattle.std.proofs.Common.{◌≡◌, ℕ, zero, suc, ◌+◌, ◌-◌, ◌*◌, ◌^◌, ◌<◌, ◌≤◌, Bool, true, false, cond, List, length, ℤ, pos, ◌+ℤ◌, nat_abs, MatchBool, sym, refl, ap, ◌∙◌, subst, le_trans, mul-le-mul_left, mul-add, add-one, arith}
+use Rattle.std.proofs.Common.{◌≡◌, ℕ, zero, suc, ◌+◌, ◌-◌, ◌*◌, ◌≤◌, Bool, true, false, cond, List, length, ℤ, pos, ◌+ℤ◌, nat_abs, MatchBool, sym, refl, ap, ◌∙◌, subst, le_trans, mul-le-mul_left, mul-add, add-one, arith}
 use borrow.Author.Differences.{ints}
 use Rattle.auction.specs.Sums.{Σ, Σℕ}
 use Rattle.auction.specs.Orders.{Order, Possible, Sound}

@@ -1,11 +1,10 @@
 -- From what each step of the judgement finds to its verdict.
-use Rattle.std.proofs.Common.{◌≡◌, ℕ, ◌<◌, ◌≤◌, List, get_or, ℤ, pos, Some, None, Ok, Err, sym, ◌∙◌, subst}
+use Rattle.std.proofs.Common.{◌≡◌, ℕ, ◌≤◌, List, ℤ, pos, Some, None, Ok, Err, sym, ◌∙◌, subst}
 use Rattle.auction.specs.declared.Broken.TheVariants.{Quantity, Balance, Flow, ZonePrice, Binding, Contentment}
-use Rattle.auction.specs.Sums.{Σ}
 use Rattle.auction.specs.Limits.{WithinLimit, Binds}
 use Rattle.auction.specs.Grids.{Grid, line_count, limit_at}
-use Rattle.auction.specs.Hours.{Book, Dispatch, Prices, Takes, Balanced, zone_price, flow_over}
-use Rattle.auction.specs.Rules.{Met, Accepted, FirstBroken}
+use Rattle.auction.specs.Hours.{Book, Dispatch, Prices, Takes, Balanced, flow_over}
+use Rattle.auction.specs.Rules.{Met, FirstBroken}
 use Rattle.orders.specs.Reads.{array_prices}
 use Rattle.flows.specs.Firsts.{FirstFailing}
 use Rattle.flows.specs.Flows.{Priced, array_flow, array_total}

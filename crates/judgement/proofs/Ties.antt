@@ -1,10 +1,10 @@
 -- What is worked out over arrays with a place for each possible zone is what the network's zones give.
-use Rattle.std.proofs.Common.{◌≡◌, ℕ, ◌+◌, ◌-◌, ◌<◌, ◌≤◌, cond, eqb, List, get_or, ℤ, pos, ◌+ℤ◌, ◌*ℤ◌, neg_ℤ, ◌≤ℤ◌, sym, refl, ap, ◌∙◌, subst, arith, le-ltb}
+use Rattle.std.proofs.Common.{◌≡◌, ℕ, ◌+◌, ◌-◌, ◌<◌, ◌≤◌, cond, eqb, List, get_or, ℤ, pos, ◌+ℤ◌, ◌*ℤ◌, neg_ℤ, ◌≤ℤ◌, sym, ap, ◌∙◌, subst, arith}
 use lib.IntN.{zero-*ℤ, *ℤ-zero}
 use Rattle.auction.specs.Sums.{Σ}
 use Rattle.auction.specs.Grids.{Grid, sensitivity_at}
-use Rattle.auction.specs.Orders.{Order, ZonePrices, Content, gain, proceeds}
-use Rattle.auction.specs.Hours.{Book, Dispatch, Entry, Prices, Balanced, net_injection, flow_over, zone_price, zone_prices, over_orders, amount_of, charge, entry_at}
+use Rattle.auction.specs.Orders.{Order, Content, gain, proceeds}
+use Rattle.auction.specs.Hours.{Book, Dispatch, Prices, net_injection, flow_over, zone_price, zone_prices, over_orders, amount_of, charge, entry_at}
 use Rattle.orders.specs.Reads.{array_prices}
 use Rattle.laws.proofs.Sums.{Σ_same}
 use Rattle.laws.proofs.Books.{orders_same}

@@ -1,5 +1,5 @@
 -- The first order of three lists, from the first of each list.
-use Rattle.std.proofs.Common.{◌≡◌, ℕ, zero, suc, ◌<◌, ◌≤◌, List, length, Some, None, arith}
+use Rattle.std.proofs.Common.{ℕ, zero, suc, ◌<◌, List, length, Some, None, arith}
 use Rattle.auction.specs.Hours.{Entry, Dispatch}
 use Rattle.orders.specs.Reads.{entry}
 use Rattle.flows.specs.Firsts.{FirstFailing}

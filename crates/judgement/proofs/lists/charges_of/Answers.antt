@@ -13,12 +13,12 @@ loop-number-init g c = running_start (g.L.OrderList.entries c.args.list.now) (di
 pub plus-total-requires : goal.plus-total-requires
 plus-total-requires g c =
     let small = running_bound _ _ _ 4294967296 c.loop-number.number 10000000 _ c.loop-number.invariant (omega arith) (g.met.L.OrderList.modest c.args.list.now) in
-    let term = c.charge-at.ensures.small in
+    let term = c.charge_at.ensures.small in
     (omega (arith, ints), omega (arith, ints))
 
 pub loop-number-preserved : goal.loop-number-preserved
 loop-number-preserved g c =
-    running_next _ _ _ 4294967296 c.loop-number.number _ c.charge-at.result _ c.loop-number.invariant c.charge-at.ensures (c.requires c.loop-number.number (omega arith)) (omega (arith, ints))
+    running_next _ _ _ 4294967296 c.loop-number.number _ c.charge_at.result _ c.loop-number.invariant c.charge_at.ensures (c.requires c.loop-number.number (omega arith)) (omega (arith, ints))
 
 pub returns : goal.returns
 returns g c =

@@ -16,8 +16,8 @@ small c = omega (arith, ints)
 fits : (c : goal.Start) → SFits w64 (c.args.price *ℤ c.args.kwh)
 fits c = product_fits c.args.price c.args.kwh (small c) c.requires
 
-pub overflow-mul-result : goal.overflow-mul-result
-overflow-mul-result c = subst (SFits w64) (sym (same c)) (fits c)
+pub overflow_mul-result : goal.overflow_mul-result
+overflow_mul-result c = subst (SFits w64) (sym (same c)) (fits c)
 
 pub returns : goal.returns
 returns c = (ap (λ x. to_z w64 (of_z w64 x)) (same c) ∙ to_z-of_z w64 (c.args.price *ℤ c.args.kwh) (fits c), small c)
