@@ -1,12 +1,12 @@
 -- From what each way of filling a sheet says to what a filling says.
-use Rattle.std.proofs.Common.{◌≡◌, ℕ, ◌<◌, ◌≤◌, ℤ, nat_abs, Some, Ok, Err, Result, sym, refl, ap, subst}
+use Rattle.std.proofs.Common.{◌≡◌, ℕ, ◌<◌, ◌≤◌, ℤ, nat_abs, Some, Ok, Err, Result, sym, ap, subst}
 use Rattle.auction.specs.declared.Fault.{Fault}
 use Rattle.auction.specs.Refusals.{Answered, Always}
 use Rattle.auction.specs.Bounds.{most_lambda, most_orders, most_kwh}
 use Rattle.sheets.specs.declared.sheet.Sheet.{Sheet}
 use Rattle.sheets.specs.Proposals.{dispatch_of, prices_of, with_quantity}
 use Rattle.history.specs.declared.calls.Filling.{Filling}
-use Rattle.history.specs.declared.calls.Filling.TheVariants.{Quantity, Lambda, ShadowPrice}
+use Rattle.history.specs.declared.calls.Filling.TheVariants.{Quantity, Lambda}
 use Rattle.history.specs.Right.{Fitting}
 use Rattle.filling.specs.Sheets.{HasPlace, SheetFilled}
 

@@ -1,5 +1,5 @@
 -- What the sheets of the two houses hold, and how they are filled in.
-use Rattle.std.specs.Prelude.{◌≡◌, ℕ, ◌<◌, ◌≤◌, cond, pos, nat_abs, Some, None, Option}
+use Rattle.std.specs.Prelude.{◌≡◌, ℕ, ◌<◌, pos, Some, None, Option}
 use Rattle.auction.specs.declared.House.{House}
 use Rattle.auction.specs.declared.House.TheVariants.{Zero, One}
 use Rattle.auction.specs.Houses.{by_house}

@@ -1,19 +1,18 @@
 -- Each call has at most one right answer; what an answer that is no refusal tells.
-use Rattle.std.proofs.Common.{◌≡◌, ℕ, ◌<◌, Bool, true, false, ◌&&◌, ◌⊎◌, Ok, Err, sym, refl, ap, ◌∙◌, inl, inr, arith}
+use Rattle.std.proofs.Common.{◌≡◌, ℕ, true, ◌&&◌, ◌⊎◌, Ok, Err, sym, ap, ◌∙◌, inl, inr, arith}
 use Rattle.auction.specs.declared.House.{House}
 use Rattle.auction.specs.declared.Refusal.{Refusal}
 use Rattle.auction.specs.declared.Refusal.TheVariants.{Sheet}
-use Rattle.auction.specs.declared.Broken.{Broken}
 use Rattle.auction.specs.Grids.{Grid}
 use Rattle.auction.specs.Hours.{Book, Dispatch, Prices}
-use Rattle.auction.specs.Rules.{Accepted, FirstBroken}
+use Rattle.auction.specs.Rules.{Accepted}
 use Rattle.laws.proofs.Laws.{one_verdict}
 use Rattle.history.specs.declared.calls.Call.{Call}
 use Rattle.history.specs.declared.calls.Call.TheVariants.{Enter, Withdraw, Close, Fill, Try, Settle, Void}
 use Rattle.history.specs.declared.calls.Reply.{Reply}
-use Rattle.history.specs.Events.{Answer, Kinds, caller_number, numbered, has_judged, taken, of_closed_hour}
+use Rattle.history.specs.Events.{Answer, Kinds, caller_number, numbered, has_judged, taken}
 use Rattle.history.specs.Situations.{Situation}
-use Rattle.history.specs.Right.{Ask, Verdict, Questions, Right}
+use Rattle.history.specs.Right.{Verdict, Questions, Right}
 
 -- an answer that is no refusal got a yes, and goes by what is asked next
 pub ask_yes : {P X : Type 0} {refusal : Refusal} {reply : Reply} → (P × X) ⊎ ((P → ⊥) × (◌≡◌ {A = Answer} (Ok reply) (Err refusal))) → P × X

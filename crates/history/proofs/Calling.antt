@@ -1,5 +1,5 @@
 -- From a call that is handled, or refused at once, to its outcome and to the longer history.
-use Rattle.std.proofs.Common.{◌≡◌, ℕ, ◌<◌, ◌≤◌, ◌⊎◌, ◌∷◌, IsErrAnd, Ok, Err, sym, refl, ap, ◌∙◌, subst, inl, inr, arith}
+use Rattle.std.proofs.Common.{◌≡◌, ◌<◌, ◌≤◌, ◌∷◌, IsErrAnd, Ok, Err, sym, refl, ap, ◌∙◌, subst, inl, inr, arith}
 use Rattle.auction.specs.declared.House.{House}
 use Rattle.auction.specs.declared.House.TheVariants.{Zero, One}
 use Rattle.auction.specs.declared.Refusal.{Refusal}
@@ -9,7 +9,7 @@ use Rattle.auction.specs.Grids.{Grid}
 use Rattle.history.specs.declared.calls.Call.{Call}
 use Rattle.history.specs.declared.calls.Call.TheVariants.{Enter, Withdraw, Close, Fill, Try, Settle, Void}
 use Rattle.history.specs.Events.{Answer, Event, History, Kinds, caller_number, numbered, of_closed_hour}
-use Rattle.history.specs.Situations.{Situation, told}
+use Rattle.history.specs.Situations.{Situation}
 use Rattle.history.specs.Right.{Questions, Right, Run}
 use Rattle.history.specs.Promise.{Promise}
 use Rattle.history.specs.Steps.{after}

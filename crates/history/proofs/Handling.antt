@@ -1,10 +1,9 @@
 -- From what happens to one list to what the box holds.
-use Rattle.std.proofs.Common.{◌≡◌, ℕ, zero, suc, ◌+◌, ◌<◌, ◌≤◌, Bool, true, false, cond, eqb, ◌⊎◌, List, [], ◌∷◌, ◌++◌, length, Ok, Err, sym, refl, ap, ◌∙◌, subst, inl, inr, append-nil, arith}
+use Rattle.std.proofs.Common.{◌≡◌, ℕ, zero, suc, ◌+◌, ◌<◌, true, cond, eqb, ◌⊎◌, List, [], ◌∷◌, ◌++◌, length, Ok, Err, sym, refl, ap, subst, inl, inr, append-nil, arith}
 use Rattle.auction.specs.declared.House.{House}
 use Rattle.auction.specs.declared.Refusal.{Refusal}
 use Rattle.auction.specs.declared.Refusal.TheVariants.{Missing, OutOfRange, NoPlace}
 use Rattle.auction.specs.Sums.{Σℕ}
-use Rattle.auction.specs.Bounds.{most_orders, most_kwh}
 use Rattle.auction.specs.Houses.{house_number}
 use Rattle.auction.specs.Grids.{Grid}
 use Rattle.auction.specs.Hours.{Entry, Book, list_at}

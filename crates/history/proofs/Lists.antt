@@ -1,8 +1,8 @@
 -- Lists of orders of which some no longer stand.
-use Rattle.std.proofs.Common.{◌≡◌, ℕ, zero, suc, ◌<◌, ◌≤◌, Bool, true, false, cond, ◌||◌, eqb, List, [], ◌∷◌, ◌++◌, length, get_or, sym, refl, ap, ◌∙◌, arith}
+use Rattle.std.proofs.Common.{◌≡◌, ℕ, zero, suc, Bool, true, false, cond, ◌||◌, eqb, List, [], ◌∷◌, ◌++◌, length, refl, ap, ◌∙◌}
 use mathlib.Core.Path.{fun_ext}
 use lib.Dec.{eqb-zero-suc, eqb-suc-zero, eqb-suc-suc}
-use Rattle.auction.specs.Hours.{Entry, no_entry}
+use Rattle.auction.specs.Hours.{Entry}
 use Rattle.orders.specs.Reads.{ended, without}
 use Rattle.history.specs.Words.{still_standing}
 

@@ -1,16 +1,16 @@
 -- Every run keeps the promise.
-use Rattle.std.proofs.Common.{◌≡◌, ℕ, zero, suc, ◌<◌, Bool, true, false, cond, not, ◌&&◌, ◌||◌, eqb, List, [], ◌∷◌, ◌++◌, length, get_or, ℤ, ◌+ℤ◌, Ok, Err, sym, refl, ap, ◌∙◌, subst, append_assoc, append-nil, arith}
+use Rattle.std.proofs.Common.{◌≡◌, ℕ, zero, suc, ◌<◌, Bool, true, false, cond, not, ◌&&◌, eqb, List, [], ◌∷◌, ◌++◌, length, get_or, ℤ, ◌+ℤ◌, Ok, Err, sym, refl, ap, ◌∙◌, subst, append_assoc, append-nil, arith}
 use borrow.Author.Differences.{ints}
-use Rattle.std.proofs.lemmas.Bool.{and_parts, and_from, cond_both, not-true, both_ways, or_right}
+use Rattle.std.proofs.lemmas.Bool.{and_parts, and_from, cond_both, not-true}
 use Rattle.auction.specs.declared.House.TheVariants.{Zero, One}
 use Rattle.auction.specs.Grids.{Grid}
-use Rattle.auction.specs.Hours.{Entry, Book, TwoHouses, no_entry, list_at, amount_of, rent_of, welfare_of}
+use Rattle.auction.specs.Hours.{Entry, TwoHouses, no_entry, amount_of, rent_of, welfare_of}
 use Rattle.auction.specs.Rules.{Accepted}
 use Rattle.orders.specs.Reads.{without}
 use Rattle.laws.proofs.Laws.{optimality, rent_law, interchange}
 use Rattle.history.specs.declared.calls.Call.{Call}
 use Rattle.history.specs.declared.calls.Call.TheVariants.{Enter, Withdraw, Close, Fill, Try, Settle, Void}
-use Rattle.history.specs.Events.{Answer, Event, History, Kinds, list_of, caller_number, accepts, caller, ends, settles, taken, has_judged, leaves_hour, of_closed_hour}
+use Rattle.history.specs.Events.{Answer, Event, History, Kinds, list_of, caller_number, accepts, caller, ends, settles, taken, has_judged, leaves_hour}
 use Rattle.history.specs.Words.{book, orders, closed, quantity, prices, account, rent_account}
 use Rattle.history.specs.Situations.{told}
 use Rattle.history.specs.Right.{Right, Run}

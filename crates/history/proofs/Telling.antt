@@ -1,23 +1,20 @@
 -- What one more event tells, of a run.
-use Rattle.std.proofs.Common.{◌≡◌, ℕ, zero, suc, ◌+◌, ◌<◌, ◌≤◌, Bool, true, false, cond, ◌&&◌, ◌||◌, eqb, ◌⊎◌, List, [], ◌∷◌, ◌++◌, length, Some, Ok, Err, sym, refl, ap, ◌∙◌, subst, inl, inr, append-nil, arith, length-append}
-use mathlib.Core.Path.{fun_ext}
+use Rattle.std.proofs.Common.{◌≡◌, ℕ, zero, suc, ◌<◌, Bool, true, false, cond, ◌&&◌, ◌||◌, eqb, List, [], ◌∷◌, ◌++◌, length, Ok, Err, sym, refl, ap, ◌∙◌, subst, append-nil, arith, length-append}
 use Rattle.std.proofs.lemmas.Bool.{and_parts, eqb-true}
 use Rattle.auction.specs.declared.Refusal.{Refusal}
 use Rattle.auction.specs.Grids.{Grid}
-use Rattle.auction.specs.Hours.{Entry, Book, list_at}
+use Rattle.auction.specs.Hours.{Entry, Book}
 use Rattle.orders.specs.Reads.{without}
-use Rattle.history.specs.declared.calls.Wish.{Wish}
-use Rattle.history.specs.declared.calls.Wish.TheVariants.{First, Second, Third}
 use Rattle.history.specs.declared.calls.Call.{Call}
 use Rattle.history.specs.declared.calls.Call.TheVariants.{Enter, Withdraw, Close, Fill, Try, Settle, Void}
 use Rattle.history.specs.declared.calls.Reply.{Reply}
 use Rattle.history.specs.Events.{Answer, Event, History, Kinds, list_of}
-use Rattle.history.specs.Words.{entered, withdrawn, orders, book, still_standing, new_entry, names}
+use Rattle.history.specs.Words.{entered, withdrawn, orders, book, still_standing}
 use Rattle.history.specs.Situations.{Situation, told}
 use Rattle.history.specs.Right.{Right, Run, Entered}
 use Rattle.history.specs.Steps.{after, list_after, book_after}
 use Rattle.history.proofs.Asking.{ask_yes}
-use Rattle.history.proofs.Lists.{still_more, still_same, still_without, still_length}
+use Rattle.history.proofs.Lists.{still_more, still_without, still_length}
 
 -- an order that the book has was entered
 pub in_book : {P Q R : Type 0} (k : Kinds P Q R) (h : History P Q R) (l n : ℕ) → Entered (book k h) l n → n < length (entered k h l)

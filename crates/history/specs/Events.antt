@@ -1,16 +1,14 @@
 -- A call with its answer, and the kinds of event that the words of a history go by.
-use Rattle.std.specs.Prelude.{ℕ, Bool, true, false, cond, ◌&&◌, List, [], ◌∷◌, ℤ, Some, None, Ok, Err, Option, Result, ◌==◌}
+use Rattle.std.specs.Prelude.{ℕ, Bool, true, false, cond, ◌&&◌, List, Some, None, Ok, Err, Option, Result, ◌==◌}
 use Rattle.auction.specs.declared.House.{House}
 use Rattle.auction.specs.declared.House.TheVariants.{Zero, One}
 use Rattle.auction.specs.Houses.{house_number}
 use Rattle.auction.specs.declared.Refusal.{Refusal}
 use Rattle.auction.specs.declared.Refusal.TheVariants.{NoCommand, NoOperands, Stranger, NotNow, Missing, OutOfRange, NotOwn, NoPlace, NoTry, Sheet}
 use Rattle.auction.specs.Orders.{Order}
-use Rattle.auction.specs.Hours.{Entry}
 use Rattle.history.specs.declared.calls.Wish.{Wish}
 use Rattle.history.specs.declared.calls.Wish.TheVariants.{First, Second, Third}
 use Rattle.history.specs.declared.calls.Filling.{Filling}
-use Rattle.history.specs.declared.calls.Filling.TheVariants.{Quantity, Lambda, ShadowPrice}
 use Rattle.history.specs.declared.calls.Call.{Call}
 use Rattle.history.specs.declared.calls.Call.TheVariants.{Enter, Withdraw, Close, Fill, Try, Settle, Void}
 use Rattle.history.specs.declared.calls.Reply.{Reply}

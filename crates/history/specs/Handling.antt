@@ -7,10 +7,10 @@ use Rattle.auction.specs.Grids.{Grid}
 use Rattle.auction.specs.Orders.{Order}
 use Rattle.auction.specs.Hours.{Entry}
 use Rattle.orders.specs.Reads.{entry, without, PlaceLeft}
-use Rattle.history.specs.Events.{Answer, History, Kinds, taken}
+use Rattle.history.specs.Events.{Answer, Kinds, taken}
 use Rattle.history.specs.declared.calls.Call.{Call}
-use Rattle.history.specs.Situations.{Situation, told}
-use Rattle.history.specs.Right.{Ask, Done, Questions, Right, Run}
+use Rattle.history.specs.Situations.{Situation}
+use Rattle.history.specs.Right.{Ask, Done, Questions, Right}
 use Rattle.history.specs.Steps.{after}
 
 -- an order is entered behind the others, with so many kWh standing in other lists

@@ -1,5 +1,5 @@
 -- How one more call changes a situation. This is what the box is held to call by call; what both houses rely on does not rest on it: the words of a history are told without it, and it is proved to agree with them.
-use Rattle.std.specs.Prelude.{ℕ, suc, Bool, false, cond, ◌||◌, List, [], ◌∷◌, ◌++◌, pos, ◌+ℤ◌, Some, ◌==◌}
+use Rattle.std.specs.Prelude.{ℕ, suc, false, cond, ◌||◌, List, [], ◌∷◌, ◌++◌, pos, ◌+ℤ◌, Some, ◌==◌}
 use Rattle.auction.specs.declared.House.{House}
 use Rattle.auction.specs.Houses.{house_number}
 use Rattle.auction.specs.Grids.{Grid}

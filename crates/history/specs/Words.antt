@@ -1,5 +1,5 @@
 -- What a history tells of the present hour and of the accounts. Each word looks at one event after the other, the newest first; those of an hour look no further back than its beginning.
-use Rattle.std.specs.Prelude.{ℕ, suc, Bool, true, false, cond, not, ◌&&◌, ◌||◌, List, [], ◌∷◌, ◌++◌, ℤ, pos, ◌+ℤ◌, Some, None, Option, ◌==◌}
+use Rattle.std.specs.Prelude.{ℕ, suc, Bool, true, false, cond, ◌&&◌, ◌||◌, List, [], ◌∷◌, ◌++◌, ℤ, pos, ◌+ℤ◌, Some, None, Option, ◌==◌}
 use Rattle.auction.specs.declared.House.{House}
 use Rattle.auction.specs.Houses.{house_number}
 use Rattle.auction.specs.Grids.{Grid}
