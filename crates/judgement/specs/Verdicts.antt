@@ -1,5 +1,5 @@
 -- What the judgement works out on the way, and what it answers.
-use Rattle.std.specs.Prelude.{◌≡◌, ℕ, ◌<◌, ◌≤◌, List, ℤ, pos, Ok, Err, Result, slice_index_or}
+use Rattle.std.specs.Prelude.{◌≡◌, ℕ, ◌<◌, ◌≤◌, List, ℤ, pos, Ok, Err, Result, slice_index_or, unsigned_abs}
 use Rattle.auction.specs.declared.Broken.{Broken}
 use Rattle.auction.specs.Rules.{Accepted, FirstBroken}
 use Rattle.auction.specs.Grids.{Grid}
@@ -9,10 +9,15 @@ use Rattle.judgement.specs.Parts.{own_charge}
 use Rattle.judgement.specs.declared.verdict.Verdict.{Verdict}
 pub use Rattle.places.specs.Places.{book_of, FirstOrder, OfOrder}
 
+-- an array of net injections that are not too large
+abbrev pub SmallNets : List ℤ → Type 0
+SmallNets nets = (z : ℕ) → unsigned_abs (slice_index_or nets z (pos 0)) ≤ 60000000
+
 -- the net injections of a network's zones in an array with a place for each zone that a network may have
 pub record Nets (zones : ℕ) (b : Book) (d : Dispatch) (nets : List ℤ) : Type 0 where
   pub inside : (z : ℕ) → z < zones → slice_index_or nets z (pos 0) ≡ net_injection b d z
   pub outside : (z : ℕ) → zones ≤ z → slice_index_or nets z (pos 0) ≡ pos 0
+  pub small : SmallNets nets
 
 -- the rules alone: a sheet that breaks none, with the prices of the zones, or the first that it breaks
 abbrev pub Ruled : Grid → Book → Dispatch → Prices → Result (List ℤ) Broken → Type 0

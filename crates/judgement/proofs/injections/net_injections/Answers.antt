@@ -12,7 +12,7 @@ loop-zone-preserved g c =
     let same : to_z w32 (of_z w32 (to_z w64 (of_z w64 c.net_injection.result))) ≡ c.net_injection.result = omega (arith, ints) in
     let full = c.loop-zone.invariant.1 in
     let place : c.loop-zone.zone < length c.loop-zone.nets = omega (arith, c.requires) in
-    (nets_next _ _ _ c.loop-zone.zone _ c.loop-zone.invariant.0 place (same ∙ c.net_injection.ensures.value), length-set c.loop-zone.nets c.loop-zone.zone _ ∙ full)
+    (nets_next _ _ _ c.loop-zone.zone _ c.loop-zone.invariant.0 place (same ∙ c.net_injection.ensures.value) (rw same c.net_injection.ensures.bound), length-set c.loop-zone.nets c.loop-zone.zone _ ∙ full)
 
 pub returns : goal.returns
 returns g c =
