@@ -1,7 +1,7 @@
 -- The sensitivities of a row, one after another.
 use Rattle.std.proofs.Common.{◌≡◌, ℕ, ◌+◌, ◌*◌, ◌<◌, List, [], ◌∷◌, ◌++◌, length, get_or, take, drop, set, ℤ, pos, sym, refl, ap, ◌∙◌, append_assoc, arith, drop-drop, take-add}
 use Rattle.std.proofs.lemmas.List.{take_more, take_more_set}
-use Rattle.stream.specs.Spelling.{le16, signed16, sensitivities}
+use Rattle.stream.specs.Spelling.{signed16, sensitivities}
 
 pub sensitivities_++ : (xs ys : List ℤ) → sensitivities (xs ++ ys) ≡ sensitivities xs ++ sensitivities ys
 sensitivities_++ [] ys = refl

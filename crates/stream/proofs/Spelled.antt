@@ -1,10 +1,10 @@
 -- A command that is spelled in a stream stands there whole.
-use Rattle.std.proofs.Common.{◌≡◌, ℕ, ◌+◌, ◌*◌, ◌≤◌, List, [], ◌∷◌, ◌++◌, length, get_or, take, drop, ℤ, Some, sym, refl, ap, ◌∙◌, inl, inr, arith, length-append}
+use Rattle.std.proofs.Common.{◌≡◌, ℕ, ◌+◌, ◌*◌, List, [], ◌∷◌, ◌++◌, length, drop, ℤ, Some, sym, refl, ap, inl, inr, arith, length-append}
 use Rattle.std.proofs.lemmas.List.{get_or_at, take_at}
 use lib.Seq.{drop-append-add}
 use Rattle.stream.specs.declared.commands.Command.{Command}
 use Rattle.stream.specs.declared.commands.Command.TheVariants.{Tree, Table, Link, Row, Monitor, HoldBack, Open, Offer, Bid, Transfer, Withdraw, Close, Try, Settle, Void, Quantity, Lambda, ShadowPrice}
-use Rattle.stream.specs.Spelling.{le16, le32, sensitivities, letter_of, operands_of, spelled}
+use Rattle.stream.specs.Spelling.{le16, le32, sensitivities, letter_of, operands_of}
 use Rattle.stream.specs.Reading.{operand_length, Whole, Stands}
 use Rattle.stream.specs.Letters.{FullRow, SpelledStands}
 

@@ -1,5 +1,5 @@
 -- What the reader found at a place, and what the bytes up to the next place are.
-use Rattle.std.proofs.Common.{◌≡◌, ℕ, ◌+◌, ◌-◌, ◌<◌, ◌≤◌, List, [], ◌∷◌, ◌++◌, length, get_or, take, drop, Some, sym, refl, ap, ◌∙◌, subst, append_assoc, arith, length-drop, drop-cons, take-add}
+use Rattle.std.proofs.Common.{◌≡◌, ℕ, ◌+◌, ◌-◌, ◌<◌, ◌≤◌, List, [], ◌∷◌, ◌++◌, length, get_or, take, drop, Some, refl, ap, subst, append_assoc, arith, length-drop, take-add}
 use Rattle.std.proofs.lemmas.List.{take_rest, take_more, length-take-le}
 use Rattle.stream.specs.Reading.{operand_length, Stands}
 

@@ -1,5 +1,5 @@
 -- How a command is spelled in a stream: one letter in ASCII, and then its operands, each number with its lowest byte first.
-use Rattle.std.specs.Prelude.{ℕ, ◌/◌, ◌%◌, cond, eqb, List, [], ◌∷◌, ◌++◌, ℤ, Some, None, Option}
+use Rattle.std.specs.Prelude.{ℕ, ◌/◌, ◌%◌, List, [], ◌∷◌, ◌++◌, ℤ, Some, None, Option}
 use Rattle.std.specs.Int.{w16, w32}
 use Rattle.std.proofs.Common.{of_z}
 use Rattle.stream.specs.declared.commands.Command.{Command}

@@ -6,13 +6,13 @@ use Rattle.decoding.proofs.numbers.row.Goals as goal
 
 pub loop-i-preserved : goal.loop-i-preserved
 loop-i-preserved c =
-    let z : ℤ = c.two-bytes-signed.result in
+    let z : ℤ = c.two_bytes_signed.result in
     let fits : SFits w16 z = search rules in
     let same : to_z w16 (of_z w16 z) ≡ z = to_z-of_z w16 z fits in
     let inside : c.loop-i.i < length c.loop-i.row = omega (arith, c.loop-i.invariant.0, c.loop-i-test.true) in
     rw same (
       length-set c.loop-i.row c.loop-i.i z ∙ c.loop-i.invariant.0,
-      row_more c.loop-i.row c.loop-i.i z c.args.operands.now c.args.at inside c.loop-i.invariant.1 c.two-bytes-signed.ensures,
+      row_more c.loop-i.row c.loop-i.i z c.args.operands.now c.args.at inside c.loop-i.invariant.1 c.two_bytes_signed.ensures,
     )
 
 pub returns : goal.returns
