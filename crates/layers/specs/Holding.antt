@@ -1,8 +1,9 @@
 -- What is read of a network of which some capacity is held back.
-use Rattle.std.specs.Prelude.{◌≡◌, ℕ, zero, suc, ◌-◌, ◌<◌, ◌≤◌, cond, List, [], ◌∷◌, length, replicate, ℤ, pos, nat_lt, slice_index, slice_index_or, slice_set, refl}
-use Rattle.std.proofs.Common.{sym, ap, ◌∙◌, ⊎_elim, arith}
+use Rattle.std.specs.Prelude.{◌≡◌, ℕ, zero, suc, ◌-◌, ◌<◌, ◌≤◌, cond, List, [], ◌∷◌, length, replicate, ℤ, pos, nat_lt, slice_index, slice_index_or, slice_set, unsigned_abs, refl}
+use Rattle.std.proofs.Common.{sym, ap, subst, ◌∙◌, ⊎_elim, arith}
 use Rattle.std.proofs.lemmas.List.{get_or_past, get_or-replicate, get_or-set_same, get_or-set_other, length-replicate}
 use Rattle.std.proofs.lemmas.Bool.{cases_lt}
+use Rattle.auction.specs.Bounds.{most_lines, most_kwh, most_sensitivity}
 use Rattle.auction.specs.Grids.{Line, Grid, no_line, line_count, limit_at, sensitivity_at}
 use Rattle.layers.specs.Lowered.{lowered_lines, lowered_grid, Holds, HoldsNothing}
 
@@ -60,3 +61,13 @@ holds_nothing below n =
       limits = λ l. omega (arith, held_limit below (replicate n 0) l, zero_at n l);
       sensitivities = λ l z. held_sensitivity below (replicate n 0) l z;
     }
+
+-- the numbers of a network of which some capacity is held back are within their bounds, as those below are
+pub held_few_lines : (below : Grid) (amounts : List ℕ) → line_count below ≤ most_lines → line_count (lowered_grid below amounts) ≤ most_lines
+held_few_lines below amounts few = omega (arith, lowered_count below.lines amounts)
+
+pub held_limited : (below : Grid) (amounts : List ℕ) → ((l : ℕ) → limit_at below l ≤ most_kwh) → (l : ℕ) → limit_at (lowered_grid below amounts) l ≤ most_kwh
+held_limited below amounts limited l = omega (arith, held_limit below amounts l, limited l)
+
+pub held_sensitive : (below : Grid) (amounts : List ℕ) → ((l z : ℕ) → unsigned_abs (sensitivity_at below l z) ≤ most_sensitivity) → (l z : ℕ) → unsigned_abs (sensitivity_at (lowered_grid below amounts) l z) ≤ most_sensitivity
+held_sensitive below amounts sensitive l z = subst (λ (s : ℤ). unsigned_abs s ≤ most_sensitivity) (sym (held_sensitivity below amounts l z)) (sensitive l z)

@@ -1,10 +1,13 @@
 -- Which line stands where in a network with watched lines.
-use Rattle.std.specs.Prelude.{◌≡◌, ℕ, ◌+◌, ◌-◌, ◌<◌, ◌≤◌, min, List, [], ◌∷◌, ◌++◌, length, take, slice_index_or, refl}
+use Rattle.std.specs.Prelude.{◌≡◌, ℕ, ◌+◌, ◌-◌, ◌<◌, ◌≤◌, min, cond, List, [], ◌∷◌, ◌++◌, length, get_or, take, pos, nat_lt, slice_index_or, unsigned_abs, refl}
 use Rattle.std.proofs.Common.{sym, ap, subst, ◌∙◌, ⊎_elim, append_assoc, arith}
 use Rattle.std.proofs.lemmas.List.{length-take, length-append, get_or-take, get_or_past, get_or_append_left, get_or-append_right, take_all, append-nil}
 use Rattle.std.proofs.lemmas.Bool.{cases_lt}
-use Rattle.auction.specs.Grids.{Line, Grid, no_line, line_count}
-use Rattle.auction.specs.Bounds.{most_lines}
+use Rattle.auction.specs.Grids.{Line, Grid, no_line, line_count, limit_at, sensitivity_at}
+use Rattle.auction.specs.Bounds.{most_lines, most_kwh, most_sensitivity}
+use Rattle.network.specs.declared.row.Row.{Row}
+use Rattle.network.specs.Rows.{lines_of}
+use Rattle.network.proofs.Lines.{lines_limited, lines_sensitive, masked}
 use Rattle.layers.specs.Watched.{watched_grid}
 
 pub watched_count : (below : Grid) (rows : List Line) → line_count (watched_grid below rows) ≡ min most_lines (line_count below + length rows)
@@ -47,3 +50,20 @@ watched_more below rows line place =
 pub watched_none : (below : Grid) (rows : List Line) → rows ≡ [] → line_count below ≤ most_lines → (watched_grid below rows).lines ≡ below.lines
 watched_none below rows none few =
     ap (λ (ls : List Line). take most_lines (below.lines ++ ls)) none ∙ ap (take most_lines) (append-nil below.lines) ∙ take_all most_lines below.lines few
+
+-- the numbers of a network with watched lines are within their bounds, as those below are
+pub watched_few_lines : (below : Grid) (rows : List Line) → line_count (watched_grid below rows) ≤ most_lines
+watched_few_lines below rows = omega (arith, watched_count below rows)
+
+pub watched_limited : (below : Grid) (count : ℕ) (rows : List Row) → line_count below ≤ most_lines → ((l : ℕ) → limit_at below l ≤ most_kwh) → (l : ℕ) → limit_at (watched_grid below (lines_of count rows)) l ≤ most_kwh
+watched_limited below count rows few limited =
+    every_line (λ line. line.limit ≤ most_kwh) below (lines_of count rows) (omega arith) limited (lines_limited count rows) few
+
+pub watched_sensitive : (below : Grid) (count : ℕ) (rows : List Row) → line_count below ≤ most_lines → ((l z : ℕ) → unsigned_abs (sensitivity_at below l z) ≤ most_sensitivity) → (l z : ℕ) → unsigned_abs (sensitivity_at (watched_grid below (lines_of count rows)) l z) ≤ most_sensitivity
+watched_sensitive below count rows few sensitive l z =
+    every_line (λ line. unsigned_abs (cond (nat_lt z below.zones) (line.sensitivity z) (pos 0)) ≤ most_sensitivity) below (lines_of count rows)
+    (masked (nat_lt z below.zones) (pos 0) (omega arith))
+    (λ k. sensitive k z)
+    (λ k. masked (nat_lt z below.zones) ((get_or (lines_of count rows) k no_line).sensitivity z) (lines_sensitive count rows k z))
+    few
+    l

@@ -1,5 +1,5 @@
 -- A network with further lines that are watched.
-use Rattle.std.specs.Prelude.{ℕ, ◌<◌, List, ◌++◌, length, take}
+use Rattle.std.specs.Prelude.{◌<◌, List, ◌++◌, length, take}
 use Rattle.auction.specs.Grids.{Line, Grid, line_count}
 use Rattle.auction.specs.Bounds.{most_lines, most_monitored}
 

@@ -1,7 +1,6 @@
 //! A network of which some capacity is held back.
 
 ghost use Rattle.std.specs.Prelude.{◌≡◌, ℕ, ◌-◌, ◌<◌, ◌≤◌, [], ◌∷◌, ◌++◌, replicate, slice_index, slice_set, unsigned_abs};
-ghost use Rattle.std.proofs.Common.{sym, subst, arith, rules};
 ghost use Rattle.auction.specs.Grids.{line_count, limit_at, sensitivity_at};
 ghost use Rattle.auction.specs.Bounds.{most_lines, most_kwh, most_sensitivity};
 ghost use Rattle.network.specs.Bounds.{OfZones, NumbersInRange};
@@ -9,7 +8,7 @@ ghost use Rattle.network.specs.Rows.{line_of, lines_of};
 ghost use Rattle.layers.specs.Watched.{watched_grid, PlaceLeft};
 ghost use Rattle.auction.specs.Refusals.{Always, Answered};
 ghost use Rattle.layers.specs.Lowered.{lowered_grid, Holds, HoldsNothing};
-ghost use Rattle.layers.specs.Holding.{lowered_count, held_limit, held_sensitivity};
+ghost use Rattle.layers.specs.Holding.{held_few_lines, held_limited, held_sensitive};
 
 use super::amounts::Amounts;
 use super::monitored::Monitored;
@@ -113,17 +112,15 @@ impl<N: Network> HeldBack<Monitored<N>> {
 impl<N: Network> Network for HeldBack<N> {
     ghost grid = { λ h. lowered_grid (N.Network.grid h.below) h.amounts.kwh };
 
-    ghost zoned = { Prim.search rules };
+    ghost zoned = { λ h. N.Network.zoned h.below };
 
-    ghost fewzones = { Prim.search rules };
+    ghost fewzones = { λ h. N.Network.fewzones h.below };
 
-    ghost fewlines = { λ h. omega (arith, lowered_count (N.Network.grid h.below).lines h.amounts.kwh, N.Network.fewlines h.below) };
+    ghost fewlines = { λ h. held_few_lines (N.Network.grid h.below) h.amounts.kwh (N.Network.fewlines h.below) };
 
-    ghost limited = { λ h l. omega (arith, held_limit (N.Network.grid h.below) h.amounts.kwh l, N.Network.limited h.below l) };
+    ghost limited = { λ h. held_limited (N.Network.grid h.below) h.amounts.kwh (N.Network.limited h.below) };
 
-    ghost sensitive = { λ h l z.
-        let same = held_sensitivity (N.Network.grid h.below) h.amounts.kwh l z in
-        subst (λ s. unsigned_abs s ≤ most_sensitivity) (sym same) (N.Network.sensitive h.below l z) };
+    ghost sensitive = { λ h. held_sensitive (N.Network.grid h.below) h.amounts.kwh (N.Network.sensitive h.below) };
 
     fn zones(&self) -> usize {
         self.below().zones()

@@ -7,9 +7,7 @@ ghost use Rattle.network.specs.Bounds.{OfZones, NumbersInRange};
 ghost use Rattle.auction.specs.Refusals.{Answered};
 ghost use Rattle.network.specs.Rows.{row_line, line_of, lines_in, SameLine, lines_of};
 ghost use Rattle.layers.specs.Watched.{watched_grid, PlaceLeft};
-ghost use Rattle.std.proofs.Common.{arith, rules};
-ghost use Rattle.layers.specs.Piled.{watched_count, every_line};
-ghost use Rattle.network.proofs.Lines.{lines_limited, lines_sensitive, masked};
+ghost use Rattle.layers.specs.Piled.{watched_few_lines, watched_limited, watched_sensitive};
 
 use auction::Fault;
 use auction::bounds::{MOST_LINES, MOST_MONITORED, MOST_ZONES};
@@ -86,24 +84,15 @@ impl<N: Network> Monitored<N> {
 impl<N: Network> Network for Monitored<N> {
     ghost grid = { λ m. watched_grid (N.Network.grid m.below) (lines_in m.watched) };
 
-    ghost zoned = { Prim.search rules };
+    ghost zoned = { λ m. N.Network.zoned m.below };
 
-    ghost fewzones = { Prim.search rules };
+    ghost fewzones = { λ m. N.Network.fewzones m.below };
 
-    ghost fewlines = { λ m. omega (arith, watched_count (N.Network.grid m.below) (lines_of m.watched.count m.watched.rows)) };
+    ghost fewlines = { λ m. watched_few_lines (N.Network.grid m.below) (lines_in m.watched) };
 
-    ghost limited = { λ m.
-        every_line (λ line. line.limit ≤ most_kwh) (N.Network.grid m.below) (lines_of m.watched.count m.watched.rows) (omega arith)
-        (N.Network.limited m.below) (lines_limited m.watched.count m.watched.rows) (N.Network.fewlines m.below) };
+    ghost limited = { λ m. watched_limited (N.Network.grid m.below) m.watched.count m.watched.rows (N.Network.fewlines m.below) (N.Network.limited m.below) };
 
-    ghost sensitive = { λ m l z.
-        let below = N.Network.grid m.below in
-        every_line (λ line. unsigned_abs (if ltb z below.zones then line.sensitivity z else pos 0) ≤ most_sensitivity) below (lines_of m.watched.count m.watched.rows)
-        (masked (nat_lt z below.zones) (pos 0) (omega arith))
-        (λ k. N.Network.sensitive m.below k z)
-        (λ k. masked (nat_lt z below.zones) ((get_or (lines_of m.watched.count m.watched.rows) k no_line).sensitivity z) (lines_sensitive m.watched.count m.watched.rows k z))
-        (N.Network.fewlines m.below)
-        l };
+    ghost sensitive = { λ m. watched_sensitive (N.Network.grid m.below) m.watched.count m.watched.rows (N.Network.fewlines m.below) (N.Network.sensitive m.below) };
 
     fn zones(&self) -> usize {
         self.below.zones()

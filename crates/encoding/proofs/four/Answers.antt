@@ -3,4 +3,4 @@ use Rattle.encoding.proofs.four.Goals as goal
 
 pub returns : goal.returns
 unfolding le32
-returns c = c.to-le-bytes.ensures
+returns c = c.to_le_bytes.ensures

@@ -3,4 +3,4 @@ use Rattle.encoding.proofs.two.Goals as goal
 
 pub returns : goal.returns
 unfolding le16
-returns c = c.to-le-bytes.ensures
+returns c = c.to_le_bytes.ensures

@@ -1,4 +1,4 @@
-use Rattle.std.proofs.Common.{◌≡◌, ◌∷◌, ◌++◌, length, take, vec_items}
+use Rattle.std.proofs.Common.{◌≡◌, ◌∷◌, ◌++◌, take, vec_items}
 use Rattle.stream.specs.Spelling.{le32, sensitivities}
 use Rattle.encoding.proofs.with_row.Given as goal
 

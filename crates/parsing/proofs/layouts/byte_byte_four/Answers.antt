@@ -4,4 +4,4 @@ use Rattle.parsing.proofs.layouts.byte_byte_four.Goals as goal
 
 pub returns : goal.returns
 returns c =
-    three_numbers c.args.numbers.now (pos c.in-ok-a.a) (pos c.in-ok-b.b) (pos c.in-ok-c.c) c.in-ok-counted.ensures c.in-ok-a.ensures c.in-ok-b.ensures c.in-ok-c.ensures
+    three_numbers c.args.numbers.now (pos c.in_ok-a.a) (pos c.in_ok-b.b) (pos c.in_ok-c.c) c.in_ok-counted.ensures c.in_ok-a.ensures c.in_ok-b.ensures c.in_ok-c.ensures

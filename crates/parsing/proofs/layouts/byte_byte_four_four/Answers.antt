@@ -4,4 +4,4 @@ use Rattle.parsing.proofs.layouts.byte_byte_four_four.Goals as goal
 
 pub returns : goal.returns
 returns c =
-    four_numbers c.args.numbers.now (pos c.in-ok-a.a) (pos c.in-ok-b.b) (pos c.in-ok-c.c) (pos c.in-ok-d.d) c.in-ok-counted.ensures c.in-ok-a.ensures c.in-ok-b.ensures c.in-ok-c.ensures c.in-ok-d.ensures
+    four_numbers c.args.numbers.now (pos c.in_ok-a.a) (pos c.in_ok-b.b) (pos c.in_ok-c.c) (pos c.in_ok-d.d) c.in_ok-counted.ensures c.in_ok-a.ensures c.in_ok-b.ensures c.in_ok-c.ensures c.in_ok-d.ensures

@@ -4,4 +4,4 @@ use Rattle.parsing.proofs.layouts.byte_only.Goals as goal
 
 pub returns : goal.returns
 returns c =
-    one_number c.args.numbers.now (pos c.in-ok-a.a) c.in-ok-counted.ensures c.in-ok-a.ensures
+    one_number c.args.numbers.now (pos c.in_ok-a.a) c.in_ok-counted.ensures c.in_ok-a.ensures

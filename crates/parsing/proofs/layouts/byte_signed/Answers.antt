@@ -5,7 +5,7 @@ use Rattle.parsing.proofs.layouts.byte_signed.Goals as goal
 
 pub returns : goal.returns
 returns c =
-    let b : ℤ = c.in-ok-b.b in
+    let b : ℤ = c.in_ok-b.b in
     let fits : SFits w32 b = search rules in
     let same : to_z w32 (of_z w32 b) ≡ b = to_z-of_z w32 b fits in
-    two_numbers c.args.numbers.now (pos c.in-ok-a.a) (to_z w32 (of_z w32 b)) c.in-ok-counted.ensures c.in-ok-a.ensures (c.in-ok-b.ensures ∙ sym same)
+    two_numbers c.args.numbers.now (pos c.in_ok-a.a) (to_z w32 (of_z w32 b)) c.in_ok-counted.ensures c.in_ok-a.ensures (c.in_ok-b.ensures ∙ sym same)

@@ -4,4 +4,4 @@ use Rattle.parsing.proofs.layouts.three_bytes_four_four.Goals as goal
 
 pub returns : goal.returns
 returns c =
-    five_numbers c.args.numbers.now (pos c.in-ok-a.a) (pos c.in-ok-b.b) (pos c.in-ok-c.c) (pos c.in-ok-d.d) (pos c.in-ok-e.e) c.in-ok-counted.ensures c.in-ok-a.ensures c.in-ok-b.ensures c.in-ok-c.ensures c.in-ok-d.ensures c.in-ok-e.ensures
+    five_numbers c.args.numbers.now (pos c.in_ok-a.a) (pos c.in_ok-b.b) (pos c.in_ok-c.c) (pos c.in_ok-d.d) (pos c.in_ok-e.e) c.in_ok-counted.ensures c.in_ok-a.ensures c.in_ok-b.ensures c.in_ok-c.ensures c.in_ok-d.ensures c.in_ok-e.ensures

@@ -5,4 +5,4 @@ use Rattle.parsing.proofs.rows.limit_and_row.Goals as goal
 pub returns : goal.returns
 returns c =
     let some : 0 < length c.args.numbers.now = search rules in
-    whole_row c.args.numbers.now c.in-ok-row.row c.in-ok-limit.limit some (omega arith) c.in-ok-limit.ensures c.in-ok-row.ensures.0 c.in-ok-row.ensures.1
+    whole_row c.args.numbers.now c.in_ok-row.row c.in_ok-limit.limit some (omega arith) c.in_ok-limit.ensures c.in_ok-row.ensures.0 c.in_ok-row.ensures.1

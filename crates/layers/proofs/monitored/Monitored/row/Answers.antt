@@ -9,8 +9,8 @@ returns-then-line-below g c =
     let m = c.args.self.now in
     line_below (g.N.Network.grid m.below) (lines_of m.watched.count m.watched.rows) c.args.line (g.met.N.Network.fewlines m.below) (omega arith)
 
-pub returns-then-line-ge-MOST-LINES : goal.returns-then-line-ge-MOST-LINES
-returns-then-line-ge-MOST-LINES g c =
+pub returns-then-line-ge-MOST_LINES : goal.returns-then-line-ge-MOST_LINES
+returns-then-line-ge-MOST_LINES g c =
     let m = c.args.self.now in
     let none = line_beyond (g.N.Network.grid m.below) (lines_of m.watched.count m.watched.rows) c.args.line (omega arith) in (
       c.blank.ensures.0 ∙ sym (ap (λ (line : Line). line.limit) none),
