@@ -3,7 +3,7 @@
 
 mod steps;
 
-use listed::{Kind, Listed};
+use listed::Listed;
 pub use steps::Stepped;
 
 pub type SteppedBids = Listed<Stepped>;
@@ -14,7 +14,6 @@ mod tests {
     use auction::bounds::MOST_ZONES;
     use auction::{Fault, House};
     use kinds::{Bids, Offers, TransferWish, Transfers, ZoneWish};
-    use listed::Kind;
     use orders::OrderList;
 
     const WISH: ZoneWish = ZoneWish {
