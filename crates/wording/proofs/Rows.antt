@@ -1,5 +1,5 @@
 -- A row in text: what is written and what is still to be written.
-use Rattle.std.proofs.Common.{◌≡◌, ℕ, ◌+◌, ◌<◌, List, [], ◌∷◌, ◌++◌, length, get_or, take, drop, ℤ, pos, decimal, sym, refl, ap, ◌∙◌, append_assoc, add-one, arith, length-drop, drop-cons}
+use Rattle.std.proofs.Common.{◌≡◌, ℕ, ◌+◌, ◌<◌, List, [], ◌∷◌, ◌++◌, length, get_or, drop, ℤ, pos, decimal, sym, ap, ◌∙◌, append_assoc, add-one, arith, length-drop, drop-cons}
 use Rattle.std.specs.Fmt.{signed_decimal}
 use Rattle.std.proofs.lemmas.List.{take_all}
 use Rattle.wording.specs.Texts.{after_blanks}
