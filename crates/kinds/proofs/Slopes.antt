@@ -1,5 +1,5 @@
 -- Where the gain of a quantity is the quantity times a slope, the slope decides what an order is content with.
-use Rattle.std.proofs.Common.{◌≡◌, ℕ, zero, suc, ◌+◌, ◌-◌, ◌*◌, ◌<◌, ◌≤◌, Bool, ◌⊎◌, ℤ, pos, ◌+ℤ◌, ◌-ℤ◌, ◌*ℤ◌, neg_ℤ, ◌≤ℤ◌, Decides, sym, refl, ap, ◌∙◌, subst, inl, inr, ⊎_elim, arith}
+use Rattle.std.proofs.Common.{◌≡◌, ℕ, zero, suc, ◌+◌, ◌-◌, ◌<◌, ◌≤◌, Bool, ℤ, pos, ◌+ℤ◌, ◌*ℤ◌, ◌≤ℤ◌, Decides, sym, ap, subst, ⊎_elim, arith}
 use borrow.Author.Differences.{ints}
 use lib.IntN.{suc_ℤ-*ℤ, *ℤ-zero}
 use Rattle.std.proofs.lemmas.Bool.{cases_order}

@@ -1,10 +1,10 @@
 -- Offers, bids and transfers are what every kind of order owes.
-use Rattle.std.specs.Prelude.{◌≡◌, ℕ, zero, suc, ◌+◌, ◌*◌, ◌<◌, ◌≤◌, max, Bool, true, false, cond, ◌⊎◌, ℤ, pos, ◌-ℤ◌, neg_ℤ, ◌==◌, unsigned_abs, refl}
-use Rattle.std.proofs.Common.{sym, ap, subst, ◌∙◌, inl, inr, ⊎_elim, mul-zero, mul-le-mul_right, arith}
+use Rattle.std.specs.Prelude.{◌≡◌, ℕ, zero, suc, ◌+◌, ◌*◌, ◌≤◌, true, false, cond, ℤ, pos, ◌-ℤ◌, neg_ℤ, ◌==◌, unsigned_abs, refl}
+use Rattle.std.proofs.Common.{ap, ⊎_elim, mul-zero, mul-le-mul_right, arith}
 use Rattle.std.proofs.lemmas.Int.{ints}
 use Rattle.std.proofs.lemmas.Bool.{cases_eq}
 use Rattle.auction.specs.Sums.{Σℕ}
-use Rattle.auction.specs.Orders.{Order, Sound}
+use Rattle.auction.specs.Orders.{Sound}
 use Rattle.rows.specs.Bounds.{InRange}
 use Rattle.kinds.specs.Kinds.{into, offer, bid, transfer}
 use Rattle.kinds.specs.Gains.{into_here, into_elsewhere}

@@ -1,16 +1,16 @@
 -- Where the gain rises by one amount for each kWh up to a step and by a lower one beyond, the two amounts decide what an order is content with.
-use Rattle.std.specs.Prelude.{◌≡◌, ℕ, zero, suc, ◌+◌, ◌-◌, ◌*◌, ◌/◌, ◌<◌, ◌≤◌, min, Bool, ◌⊎◌, List, length, ℤ, pos, ◌+ℤ◌, ◌-ℤ◌, ◌*ℤ◌, neg_ℤ, ◌≤ℤ◌, Decides, unsigned_abs, refl}
-use Rattle.std.proofs.Common.{sym, ap, subst, ◌∙◌, inl, inr, ⊎_elim, mul-add, mul_assoc, mul_comm, mul-zero, arith}
+use Rattle.std.specs.Prelude.{◌≡◌, ℕ, zero, suc, ◌+◌, ◌-◌, ◌*◌, ◌/◌, ◌<◌, ◌≤◌, min, Bool, List, length, ℤ, pos, ◌+ℤ◌, ◌-ℤ◌, ◌*ℤ◌, neg_ℤ, ◌≤ℤ◌, Decides, unsigned_abs, refl}
+use Rattle.std.proofs.Common.{sym, ap, subst, ◌∙◌, ⊎_elim, mul-add, mul_assoc, mul_comm, arith}
 use Rattle.std.proofs.lemmas.Int.{ints}
 use Rattle.std.proofs.lemmas.Bool.{cases_lt, cases_order}
-use Rattle.auction.specs.Sums.{Σ, Σℕ}
-use Rattle.auction.specs.Orders.{Order, Possible, ZonePrices, gain, Content, Sound}
+use Rattle.auction.specs.Sums.{Σ}
+use Rattle.auction.specs.Orders.{Order, ZonePrices, gain, Content, Sound}
 use Rattle.orders.specs.Reads.{array_prices}
 use Rattle.rows.specs.Bounds.{InRange}
 use Rattle.laws.proofs.Ring.{distrib}
 use Rattle.kinds.specs.Kinds.{into}
 use Rattle.kinds.specs.Slopes.{price_in, scaled}
-use Rattle.kinds.proofs.Slopes.{one_more, up_from, down_from, added, rising, falling, level, carried}
+use Rattle.kinds.proofs.Slopes.{one_more, added, rising, falling, level, carried}
 use Rattle.kinds.specs.Gains.{mul_neg, paid_out, into_elsewhere}
 use Rattle.kinds.specs.Sounds.{size, Σℕ_into, Σℕ_under, neg_size, nothing, at_most}
 use Rattle.stepped.specs.Steps.{in_steps, stepped, ContentInSteps}

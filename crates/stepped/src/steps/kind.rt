@@ -1,11 +1,10 @@
 //! What is asked of bids in two steps.
 
-ghost use Rattle.std.specs.Prelude.{◌≡◌, ◌*◌, ◌/◌, ◌<◌, ◌≤◌, Decides, MatchOption};
+ghost use Rattle.std.specs.Prelude.{◌≡◌, ◌*◌, ◌/◌, ◌<◌, ◌≤◌, Decides, MatchOption, refl};
 ghost use Rattle.rows.specs.Bounds.{InRange};
 ghost use Rattle.rows.specs.Rows.{Ranged};
 ghost use Rattle.stepped.specs.Steps.{stepped, in_steps, ContentInSteps};
 ghost use Rattle.stepped.specs.TwoSteps.{stepped_sound};
-ghost use Rattle.std.proofs.Common.{rules, arith};
 
 use super::Stepped;
 use auction::bounds::MOST_ZONES;
@@ -68,7 +67,7 @@ impl Kind for Stepped {
 
     ghost sound = { λ first second price quantity ranged. stepped_sound first price quantity ranged };
 
-    ghost sized = { first_of (Prim.search rules, Prim.grind (arith, Self.row.coded.inj)) };
+    ghost sized = { λ _ _ _ _. refl };
 
     fn of_row(row: &Row) -> Option<Stepped>
         ensures { MatchOption result (Ranged row.now → ⊥) (λ o. Ranged row.now × (o.zone ≡ row.now.first) × (o.price ≡ row.now.price) × (o.quantity ≡ row.now.quantity)) }

@@ -10,4 +10,4 @@ use Rattle.kinds.proofs.bid.kind.BidKind.content.Goals as goal
 pub returns : goal.returns
 returns c =
     content_by (array_prices c.args.prices.now) (bid c.args.self.now.zone c.args.self.now.price c.args.self.now.quantity) (bid_slope c.args.prices.now c.args.self.now.zone c.args.self.now.price)
-    (bid_gain c.args.prices.now c.told-prices c.args.self.now.zone c.args.self.now.price c.args.self.now.quantity) c.args.quantity c.content-at.result _ c.content-at.ensures (omega (arith, ints))
+    (bid_gain c.args.prices.now c.told-prices c.args.self.now.zone c.args.self.now.price c.args.self.now.quantity) c.args.quantity c.content_at.result _ c.content_at.ensures (omega (arith, ints))

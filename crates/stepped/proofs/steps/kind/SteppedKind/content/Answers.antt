@@ -11,4 +11,4 @@ returns c =
     content_by_steps (array_prices c.args.prices.now) (stepped c.args.self.now.zone c.args.self.now.price c.args.self.now.quantity) (c.args.self.now.quantity / 2)
     (scaled c.args.self.now.price -ℤ price_in c.args.prices.now c.args.self.now.zone) (scaled (c.args.self.now.price / 2) -ℤ price_in c.args.prices.now c.args.self.now.zone)
     (omega arith) (lower_step c.args.self.now.price (price_in c.args.prices.now c.args.self.now.zone)) (steps_gain c.args.prices.now c.told-prices c.args.self.now.zone c.args.self.now.price c.args.self.now.quantity)
-    c.args.quantity c.content-in-steps.result _ _ c.content-in-steps.ensures (omega (arith, ints)) (omega (arith, ints))
+    c.args.quantity c.content_in_steps.result _ _ c.content_in_steps.ensures (omega (arith, ints)) (omega (arith, ints))
