@@ -1,5 +1,5 @@
 -- From what comes of a call to the longer history.
-use Rattle.std.proofs.Common.{◌≡◌, ◌∷◌, sym, subst}
+use Rattle.std.proofs.Common.{◌∷◌, sym, subst}
 use Rattle.network.specs.declared.Network.{Ghosts as NetworkMeaning}
 use Rattle.orders.specs.declared.OrderList.{Ghosts as ListMeaning}
 use Rattle.history.specs.declared.calls.Call.{Call}

@@ -1,14 +1,14 @@
 -- Calls that judge a sheet or end the hour.
-use Rattle.std.proofs.Common.{◌≡◌, ℕ, suc, ◌<◌, Bool, true, false, cond, ◌⊎◌, List, [], ◌∷◌, ℤ, pos, ◌+ℤ◌, IsErrAnd, Ok, Err, Result, sym, refl, ap, ◌∙◌, subst, inl, inr}
+use Rattle.std.proofs.Common.{◌≡◌, suc, true, false, List, [], ◌∷◌, ℤ, pos, ◌+ℤ◌, IsErrAnd, Ok, Err, Result, sym, refl, ap, ◌∙◌, subst, inl, inr}
 use mathlib.Core.Path.{fun_ext}
 use Rattle.auction.specs.declared.House.{House}
 use Rattle.auction.specs.declared.House.TheVariants.{Zero, One}
 use Rattle.auction.specs.declared.Broken.{Broken}
 use Rattle.auction.specs.declared.Refusal.{Refusal}
 use Rattle.auction.specs.declared.Refusal.TheVariants as Refused
-use Rattle.auction.specs.Houses.{house_number, by_house}
+use Rattle.auction.specs.Houses.{house_number}
 use Rattle.auction.specs.Grids.{Grid}
-use Rattle.auction.specs.Hours.{Entry, Book, Dispatch, Prices, amount_of, rent_of, welfare_of}
+use Rattle.auction.specs.Hours.{Entry, Book, Dispatch, Prices, amount_of, rent_of}
 use Rattle.judgement.specs.declared.verdict.Verdict as Found
 use Rattle.judgement.specs.Verdicts.{Judged}
 use Rattle.ledger.specs.Pages.{Page, tried_page, new_page, settled_page, paid_by}
@@ -16,7 +16,6 @@ use Rattle.filling.specs.declared.Sheets.{Sheets}
 use Rattle.sheets.specs.declared.sheet.Sheet.{Sheet}
 use Rattle.sheets.specs.Proposals.{dispatch_of, prices_of}
 use Rattle.filling.specs.Sheets.{sheet_of, dispatches, prices_by, Blank}
-use Rattle.history.specs.declared.calls.Call.{Call}
 use Rattle.history.specs.declared.calls.Call.TheVariants.{Try, Settle, Void}
 use Rattle.history.specs.declared.calls.Reply.TheVariants.{Done, Accepted}
 use Rattle.history.specs.Events.{Answer, Kinds, numbered}

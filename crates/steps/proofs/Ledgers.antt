@@ -1,5 +1,5 @@
 -- Calls that change the ledger alone.
-use Rattle.std.proofs.Common.{◌≡◌, ℕ, ◌<◌, true, false, ◌⊎◌, List, [], ◌∷◌, IsErrAnd, Ok, Err, sym, refl, ap, subst, inl, inr}
+use Rattle.std.proofs.Common.{◌≡◌, ℕ, ◌<◌, List, IsErrAnd, Ok, Err, sym, refl, ap, subst, inl, inr}
 use Rattle.auction.specs.declared.House.{House}
 use Rattle.auction.specs.declared.Fault.{Fault}
 use Rattle.auction.specs.declared.Fault.TheVariants.{Missing, OutOfRange, NoPlace}

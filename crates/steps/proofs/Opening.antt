@@ -1,5 +1,5 @@
 -- A new box.
-use Rattle.std.proofs.Common.{◌≡◌, List, [], ◌∷◌, refl}
+use Rattle.std.proofs.Common.{◌≡◌, List, [], ◌∷◌}
 use Rattle.auction.specs.declared.House.{House}
 use Rattle.auction.specs.declared.House.TheVariants.{Zero, One}
 use Rattle.auction.specs.Grids.{Grid}

@@ -11,16 +11,16 @@ returns-then-not-fillable g c =
     let b = c.args.self.now in
     (refl, not_fillable (kinds_of g.X.OrderList g.Y.OrderList g.W.OrderList) (g.N.Network.grid b.network) c.args.house (house_number c.args.house) c.args.filling (g.X.OrderList.entries b.first) (g.Y.OrderList.entries b.second) (g.W.OrderList.entries b.third) b.sheets (page b.ledger) (λ there. both_ways c.fillable.result c.if-not-fillable.true (c.fillable.ensures.1 there)))
 
-pub returns-in-err-fill : goal.returns-in-err-fill
-returns-in-err-fill g c =
+pub returns-in_err-fill : goal.returns-in_err-fill
+returns-in_err-fill g c =
     let b = c.args.self.now in
     let there = c.fillable.ensures.0 c.if-not-fillable.false in
     let place = place_of (g.N.Network.grid b.network) (g.X.OrderList.entries b.first) (g.Y.OrderList.entries b.second) (g.W.OrderList.entries b.third) c.args.filling (g.met.X.OrderList.few b.first) (g.met.Y.OrderList.few b.second) (g.met.W.OrderList.few b.third) (g.met.N.Network.fewlines b.network) there in
-    let h = c.in-err-fill.ensures in
-    (refl, not_filled (kinds_of g.X.OrderList g.Y.OrderList g.W.OrderList) (g.N.Network.grid b.network) c.args.house (house_number c.args.house) c.args.filling (g.X.OrderList.entries b.first) (g.Y.OrderList.entries b.second) (g.W.OrderList.entries b.third) b.sheets c.fill.new.self (page b.ledger) c.in-err-fill.field-0.0 c.from-residual.result there place c.from-residual.ensures.1 h.0 h.1)
+    let h = c.in_err-fill.ensures in
+    (refl, not_filled (kinds_of g.X.OrderList g.Y.OrderList g.W.OrderList) (g.N.Network.grid b.network) c.args.house (house_number c.args.house) c.args.filling (g.X.OrderList.entries b.first) (g.Y.OrderList.entries b.second) (g.W.OrderList.entries b.third) b.sheets c.fill.new.self (page b.ledger) c.in_err-fill.field-0.0 c.from_residual.result there place c.from_residual.ensures.1 h.0 h.1)
 
 pub returns : goal.returns
 returns g c =
     let b = c.args.self.now in
-    let h = c.in-ok-fill.ensures in
+    let h = c.in_ok-fill.ensures in
     (refl, filled_so (kinds_of g.X.OrderList g.Y.OrderList g.W.OrderList) (g.N.Network.grid b.network) c.args.house c.args.filling (g.X.OrderList.entries b.first) (g.Y.OrderList.entries b.second) (g.W.OrderList.entries b.third) b.sheets c.fill.new.self (page b.ledger) (c.fillable.ensures.0 c.if-not-fillable.false) h.1 h.3)

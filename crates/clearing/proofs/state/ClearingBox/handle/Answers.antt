@@ -35,7 +35,7 @@ pub returns-in-Closed-Try : goal.returns-in-Closed-Try
 returns-in-Closed-Try g c =
     let b = c.args.self.now in
     let same = sym c.requires ∙ ap caller_number c.in-Closed-Try.is-1 in
-    (c.try-sheet.ensures.0, allowed_outcome (kinds_of g.X.OrderList g.Y.OrderList g.W.OrderList) (g.N.Network.grid b.network) c.args.house (Calls.Try (house_number c.args.house)) c.args.call (situation g.X.OrderList g.Y.OrderList g.W.OrderList b) (situation g.X.OrderList g.Y.OrderList g.W.OrderList c.try-sheet.new.self) c.try-sheet.result (ap {B = Call g.row.X-Wish.Denot g.row.Y-Wish.Denot g.row.W-Wish.Denot} (λ n. Calls.Try n) same ∙ sym c.in-Closed-Try.is-1) refl c.in-Closed-Try.ensures c.try-sheet.ensures.1)
+    (c.try_sheet.ensures.0, allowed_outcome (kinds_of g.X.OrderList g.Y.OrderList g.W.OrderList) (g.N.Network.grid b.network) c.args.house (Calls.Try (house_number c.args.house)) c.args.call (situation g.X.OrderList g.Y.OrderList g.W.OrderList b) (situation g.X.OrderList g.Y.OrderList g.W.OrderList c.try_sheet.new.self) c.try_sheet.result (ap {B = Call g.row.X-Wish.Denot g.row.Y-Wish.Denot g.row.W-Wish.Denot} (λ n. Calls.Try n) same ∙ sym c.in-Closed-Try.is-1) refl c.in-Closed-Try.ensures c.try_sheet.ensures.1)
 
 pub returns-in-Closed-Settle : goal.returns-in-Closed-Settle
 returns-in-Closed-Settle g c =
@@ -49,14 +49,14 @@ returns-in-Closed-Void g c =
     let same = sym c.requires ∙ ap caller_number c.in-Closed-Void.is-1 in
     (c.void.ensures.0, allowed_outcome (kinds_of g.X.OrderList g.Y.OrderList g.W.OrderList) (g.N.Network.grid b.network) c.args.house (Calls.Void (house_number c.args.house)) c.args.call (situation g.X.OrderList g.Y.OrderList g.W.OrderList b) (situation g.X.OrderList g.Y.OrderList g.W.OrderList c.void.new.self) c.void.result (ap {B = Call g.row.X-Wish.Denot g.row.Y-Wish.Denot g.row.W-Wish.Denot} (λ n. Calls.Void n) same ∙ sym c.in-Closed-Void.is-1) refl c.in-Closed-Void.ensures c.void.ensures.1)
 
-pub returns-in-default : goal.returns-in-default
-returns-in-default g c =
+pub returns-in_default : goal.returns-in_default
+returns-in_default g c =
     let b = c.args.self.now in
     let not_now : of_closed_hour c.args.call ≡ (situation g.X.OrderList g.Y.OrderList g.W.OrderList b).closed → ⊥ = search rules in
     (refl, not_now_outcome (kinds_of g.X.OrderList g.Y.OrderList g.W.OrderList) (g.N.Network.grid b.network) c.args.house c.args.call (situation g.X.OrderList g.Y.OrderList g.W.OrderList b) c.requires not_now)
 
-pub returns-in-default·2 : goal.returns-in-default·2
-returns-in-default·2 g c =
+pub returns-in_default-2 : goal.returns-in_default-2
+returns-in_default-2 g c =
     let b = c.args.self.now in
     let not_now : of_closed_hour c.args.call ≡ (situation g.X.OrderList g.Y.OrderList g.W.OrderList b).closed → ⊥ = search rules in
     (refl, not_now_outcome (kinds_of g.X.OrderList g.Y.OrderList g.W.OrderList) (g.N.Network.grid b.network) c.args.house c.args.call (situation g.X.OrderList g.Y.OrderList g.W.OrderList b) c.requires not_now)

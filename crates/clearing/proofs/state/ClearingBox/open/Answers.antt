@@ -1,4 +1,4 @@
-use Rattle.std.proofs.Common.{[], ap, ◌∙◌}
+use Rattle.std.proofs.Common.{ap, ◌∙◌}
 use Rattle.ledger.specs.Pages.{page}
 use Rattle.clearing.specs.Views.{kinds_of}
 use Rattle.steps.proofs.Opening.{opened_so}

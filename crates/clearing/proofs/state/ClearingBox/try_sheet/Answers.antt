@@ -5,18 +5,18 @@ use Rattle.clearing.specs.Views.{kinds_of}
 use Rattle.steps.proofs.Judging.{own_sheet, tried_so, not_tried}
 use Rattle.clearing.proofs.state.ClearingBox.try_sheet.Goals as goal
 
-pub returns-in-err-verdict : goal.returns-in-err-verdict
-returns-in-err-verdict g c =
+pub returns-in_err-verdict : goal.returns-in_err-verdict
+returns-in_err-verdict g c =
     let b = c.args.self.now in
-    let refusal = c.in-err-verdict.field-0.0 in
-    let found = own_sheet (kinds_of g.X.OrderList g.Y.OrderList g.W.OrderList) (g.N.Network.grid b.network) c.args.house (g.X.OrderList.entries b.first) (g.Y.OrderList.entries b.second) (g.W.OrderList.entries b.third) b.sheets (page b.ledger) (page c.judged.new.ledger) c.of.result.now c.of.ensures (Err refusal) c.in-err-verdict.ensures in
-    (refl, not_tried (kinds_of g.X.OrderList g.Y.OrderList g.W.OrderList) (g.N.Network.grid b.network) c.args.house (g.X.OrderList.entries b.first) (g.Y.OrderList.entries b.second) (g.W.OrderList.entries b.third) b.sheets (page b.ledger) (page c.judged.new.ledger) refusal c.from-residual.result c.from-residual.ensures.1 found)
+    let refusal = c.in_err-verdict.field-0.0 in
+    let found = own_sheet (kinds_of g.X.OrderList g.Y.OrderList g.W.OrderList) (g.N.Network.grid b.network) c.args.house (g.X.OrderList.entries b.first) (g.Y.OrderList.entries b.second) (g.W.OrderList.entries b.third) b.sheets (page b.ledger) (page c.judged.new.ledger) c.of.result.now c.of.ensures (Err refusal) c.in_err-verdict.ensures in
+    (refl, not_tried (kinds_of g.X.OrderList g.Y.OrderList g.W.OrderList) (g.N.Network.grid b.network) c.args.house (g.X.OrderList.entries b.first) (g.Y.OrderList.entries b.second) (g.W.OrderList.entries b.third) b.sheets (page b.ledger) (page c.judged.new.ledger) refusal c.from_residual.result c.from_residual.ensures.1 found)
 
 pub returns : goal.returns
 returns g c =
     let b = c.args.self.now in
-    let v = c.in-ok-verdict.verdict in
+    let v = c.in_ok-verdict.verdict in
     let welfare-fits : SFits w64 v.welfare = search rules in
     let rent-fits : SFits w64 v.rent = search rules in
-    let found = own_sheet (kinds_of g.X.OrderList g.Y.OrderList g.W.OrderList) (g.N.Network.grid b.network) c.args.house (g.X.OrderList.entries b.first) (g.Y.OrderList.entries b.second) (g.W.OrderList.entries b.third) b.sheets (page b.ledger) (page c.judged.new.ledger) c.of.result.now c.of.ensures (Ok v) c.in-ok-verdict.ensures in
+    let found = own_sheet (kinds_of g.X.OrderList g.Y.OrderList g.W.OrderList) (g.N.Network.grid b.network) c.args.house (g.X.OrderList.entries b.first) (g.Y.OrderList.entries b.second) (g.W.OrderList.entries b.third) b.sheets (page b.ledger) (page c.judged.new.ledger) c.of.result.now c.of.ensures (Ok v) c.in_ok-verdict.ensures in
     (refl, tried_so (kinds_of g.X.OrderList g.Y.OrderList g.W.OrderList) (g.N.Network.grid b.network) c.args.house (g.X.OrderList.entries b.first) (g.Y.OrderList.entries b.second) (g.W.OrderList.entries b.third) b.sheets (page b.ledger) (page c.judged.new.ledger) v (to_z w64 (of_z w64 v.welfare)) (to_z w64 (of_z w64 v.rent)) (to_z-of_z w64 v.welfare welfare-fits) (to_z-of_z w64 v.rent rent-fits) found)
