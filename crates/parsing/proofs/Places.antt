@@ -1,6 +1,5 @@
 -- A list written out, place by place.
 use Rattle.std.proofs.Common.{◌≡◌, ℕ, zero, suc, ◌+◌, ◌-◌, ◌<◌, ◌≤◌, ◌≢◌, List, [], ◌∷◌, ◌++◌, length, get_or, drop, set, replicate, ℤ, pos, sym, refl, ap, ◌∙◌, add-one, arith, length-drop, drop-cons, below_more}
-use Rattle.parsing.specs.Numbers.{filled_row}
 use Rattle.std.proofs.lemmas.List.{take_all, get_or-set_same, get_or-set_other, get_or_default, same_lists, length-append, length-replicate}
 
 pub one : (xs : List ℤ) (at : ℕ) → at < length xs → drop at xs ≡ get_or xs at (pos 0) ∷ drop (at + 1) xs
@@ -32,8 +31,8 @@ entry : (ns row : List ℤ) (limit : ℕ) → get_or ns 0 (pos 0) ≡ pos limit 
 entry ns row limit first others zero h = first
 entry ns row limit first others (suc k) h = rw (← add-one) (sym (others k (omega arith)))
 
-padded_row : (ns row : List ℤ) (limit : ℕ) → length ns ≤ 25 → get_or ns 0 (pos 0) ≡ pos limit → length row ≡ 24 → ((k : ℕ) → k < 24 → get_or row k (pos 0) ≡ get_or ns (k + 1) (pos 0)) → ns ++ replicate (25 - length ns) (pos 0) ≡ pos limit ∷ row
-padded_row ns row limit few first long others =
+pub whole_row : (ns row : List ℤ) (limit : ℕ) → length ns ≤ 25 → get_or ns 0 (pos 0) ≡ pos limit → length row ≡ 24 → ((k : ℕ) → k < 24 → get_or row k (pos 0) ≡ get_or ns (k + 1) (pos 0)) → ns ++ replicate (25 - length ns) (pos 0) ≡ pos limit ∷ row
+whole_row ns row limit few first long others =
     let full : length (ns ++ replicate (25 - length ns) (pos 0)) ≡ 25 = length-append ns (replicate (25 - length ns) (pos 0)) ∙ ap (λ n. length ns + n) (length-replicate (25 - length ns) (pos 0)) ∙ omega arith in
     let same : length (ns ++ replicate (25 - length ns) (pos 0)) ≡ length (pos limit ∷ row) = omega arith in
     same_lists (ns ++ replicate (25 - length ns) (pos 0)) (pos limit ∷ row) same
@@ -42,13 +41,6 @@ padded_row ns row limit few first long others =
     ∙ padded ns (25 - length ns) k
     ∙ entry ns row limit first others k (omega arith)
     ∙ get_or_default (pos limit ∷ row) k (pos 0) d (omega arith))
-
--- the same of numbers of which the first is the limit
-pub whole_row : (ns row : List ℤ) (limit : ℕ) → 0 < length ns → length ns ≤ 25 → get_or ns 0 (pos 0) ≡ pos limit → length row ≡ 24 → ((k : ℕ) → k < 24 → get_or row k (pos 0) ≡ get_or ns (k + 1) (pos 0)) → filled_row ns ≡ pos limit ∷ row
-whole_row [] row limit some few first long others = absurd (omega arith)
-whole_row (n ∷ ns) row limit some few first long others =
-    let left : 24 - length ns ≡ 25 - length (n ∷ ns) = omega arith in
-    ap (λ k. n ∷ (ns ++ replicate k (pos 0))) left ∙ padded_row (n ∷ ns) row limit few first long others
 
 -- a list of so many numbers, from what stands at each place
 pub one_number : (xs : List ℤ) (a : ℤ) → length xs ≡ 1 → get_or xs 0 (pos 0) ≡ a → xs ≡ a ∷ []

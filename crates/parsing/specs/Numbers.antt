@@ -1,6 +1,5 @@
 -- A command's operands as numbers, in the order in which they are written down.
 use Rattle.std.specs.Prelude.{◌≡◌, ℕ, ◌-◌, cond, ◌||◌, List, [], ◌∷◌, ◌++◌, length, replicate, ℤ, pos, ◌==◌}
-use Rattle.auction.specs.Bounds.{most_zones}
 use Rattle.stream.specs.declared.Command.{Command}
 use Rattle.stream.specs.declared.Command.TheVariants.{Tree, Table, Link, Row, Monitor, HoldBack, Open, Offer, Bid, Transfer, Withdraw, Close, Try, Settle, Void, Quantity, Lambda, ShadowPrice}
 use Rattle.stream.specs.Spelling.{letter_of}
@@ -25,14 +24,9 @@ numbers_of (Quantity house list number quantity) = pos house ∷ pos list ∷ po
 numbers_of (Lambda house lambda) = pos house ∷ lambda ∷ []
 numbers_of (ShadowPrice house line price) = pos house ∷ pos line ∷ pos price ∷ []
 
--- a limit, and a sensitivity for each zone that a network may have: those left out at the end are 0
-abbrev pub filled_row : List ℤ → List ℤ
-filled_row [] = []
-filled_row (limit ∷ row) = limit ∷ (row ++ replicate (most_zones - length row) (pos 0))
-
--- only a row, R or V in ASCII, may leave numbers out
+-- Of a row, R or V in ASCII, sensitivities of 0 may be left out at the end: with its limit it has 25 numbers.
 abbrev pub filled : ℕ → List ℤ → List ℤ
-filled letter numbers = cond (letter == 82 || letter == 86) (filled_row numbers) numbers
+filled letter numbers = cond (letter == 82 || letter == 86) (numbers ++ replicate (25 - length numbers) (pos 0)) numbers
 
 -- a letter and numbers mean a command
 abbrev pub Means : ℕ → List ℤ → Command → Type 0

@@ -1,8 +1,7 @@
 //! The numbers of a row: its limit, and up to as many sensitivities as there may be zones.
 
-ghost use Rattle.std.specs.Prelude.{◌≡◌, ℕ, ◌+◌, ◌<◌, ◌∷◌, length, pos, IfOk, slice_index_or};
+ghost use Rattle.std.specs.Prelude.{◌≡◌, ℕ, ◌+◌, ◌-◌, ◌<◌, ◌∷◌, ◌++◌, length, replicate, pos, IfOk, slice_index_or};
 ghost use Rattle.auction.specs.Bounds.{most_zones};
-ghost use Rattle.parsing.specs.Numbers.{filled_row};
 
 use crate::widths::{Wrong, four, two_signed};
 use auction::bounds::MOST_ZONES;
@@ -30,7 +29,7 @@ fn sensitivities(numbers: &[i64]) -> Result<[i16; MOST_ZONES], Wrong>
 
 /// A limit and a row; sensitivities of 0 may be left out at the end.
 pub(crate) fn limit_and_row(numbers: &[i64]) -> Result<(u32, [i16; MOST_ZONES]), Wrong>
-    ensures { IfOk result (λ p. filled_row numbers.now ≡ pos p.0 ∷ p.1) }
+    ensures { IfOk result (λ p. numbers.now ++ replicate (25 - length numbers.now) (pos 0) ≡ pos p.0 ∷ p.1) }
 {
     if numbers.is_empty() {
         return Err(Wrong::TooFew);
