@@ -13,7 +13,12 @@ use ledger::{Ledger, Phase};
 use network::Network;
 use orders::OrderList;
 
-impl<N: Network, X: OrderList, Y: OrderList, W: OrderList> ClearingBox<N, X, Y, W> {
+impl<N: Network, X: OrderList, Y: OrderList, W: OrderList> ClearingBox<N, X, Y, W>
+where
+    X::Wish: Copy,
+    Y::Wish: Copy,
+    W::Wish: Copy,
+{
     /// A box over a network, with an open hour, no orders, empty sheets, and nothing tried, settled or paid. What the lists held is forgotten.
     pub fn open(network: N, first: X, second: Y, third: W) -> ClearingBox<N, X, Y, W>
         ensures network { result.network ≡ network }
