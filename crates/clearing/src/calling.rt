@@ -67,7 +67,9 @@ where
         let house = House::numbered(call.house())?;
         self.handle(house, call)
     }
+}
 
+impl<N: Network, X: OrderList, Y: OrderList, W: OrderList> ClearingBox<N, X, Y, W> {
     /// What a house has paid since the opening, in millionths of a cent; it was paid where this is negative.
     pub fn account(&self, house: House) -> i128
         ensures { result ≡ (situation X.OrderList Y.OrderList W.OrderList self.now).account house }
