@@ -6,7 +6,7 @@ use Rattle.std.proofs.lemmas.Bool.{cases_lt}
 use Rattle.stream.specs.declared.Command.{Command}
 use Rattle.parsing.specs.Numbers.{Means}
 use Rattle.notation.specs.declared.scanning.Stop.TheVariants.{Blank, Word, CommandEnd, LineEnd}
-use Rattle.notation.specs.Scanning.{is_blank, ends_command, FirstStop}
+use Rattle.notation.specs.Scanning.{is_blank, FirstStop}
 use Rattle.notation.specs.Writing.{IsNumber, WordEnds, LineEnds, Numbers, no_number, skip_blank, number, Piece, no_command, leading_blank, command, EndsPiece, Writes, last, ended, noted}
 
 -- a text from one place on is the stretch up to another place, and the text from there on

@@ -1,5 +1,5 @@
 -- What is read of a stream so far, and written of its text.
-use Rattle.std.proofs.Common.{◌≡◌, ℕ, ◌≤◌, ◌⊎◌, List, [], ◌∷◌, ◌++◌, length, take, sym, refl, ap, ◌∙◌, inl, inr, append_assoc, arith}
+use Rattle.std.proofs.Common.{◌≡◌, ℕ, ◌≤◌, List, [], ◌∷◌, ◌++◌, length, take, sym, refl, ap, ◌∙◌, inl, inr, append_assoc, arith}
 use Rattle.stream.specs.declared.Command.{Command}
 use Rattle.stream.specs.declared.ReadFault.{ReadFault}
 use Rattle.stream.specs.Spelling.{spelled}

@@ -1,4 +1,4 @@
-use Rattle.std.proofs.Common.{◌≡◌, ℕ, List, ◌∷◌, ◌++◌, string_bytes, sym, ap, ◌∙◌, subst, rules}
+use Rattle.std.proofs.Common.{◌≡◌, ℕ, List, ◌∷◌, ◌++◌, string_bytes, sym, ◌∙◌, subst, rules}
 use Rattle.stream.specs.Reading.{Stands}
 use Rattle.stream.specs.Spelling.{spelled}
 use Rattle.wording.specs.Texts.{text_of}
@@ -9,7 +9,7 @@ pub items-preserved-in-Some-decode : goal.items-preserved-in-Some-decode
 items-preserved-in-Some-decode c =
     let bytes : List ℕ = c.items.reader.bytes.now in
     let text : List ℕ = string_bytes c.items.text in
-    let more : List ℕ = string_bytes c.push-str-in-Some-decode.new.self in
+    let more : List ℕ = string_bytes c.push_str-in-Some-decode.new.self in
     let next : ℕ = c.next.new.self.at in
     let stands : Stands bytes c.items.reader.at c.in-Some.item.letter c.in-Some.item.operands.now next = search rules in
     let spells : spelled c.in-Some-decode.command ≡ c.in-Some.item.letter ∷ c.in-Some.item.operands.now = search rules in

@@ -8,8 +8,8 @@ pieces-preserved c =
     let done = c.pieces.invariant.0 in
     let added = c.in-Ok.ensures in (
       done ++ added.0,
-      one_more_piece c.args.text.now c.pieces.at c.find-from-end.result c.after-comment-stop.result done added.0 c.pieces-test.true c.find-from-end.ensures c.after-comment-stop.ensures.ends added.1 c.pieces.invariant.1,
-      written_more (vec_items c.pieces.bytes) (vec_items c.add-piece.new.out) done added.0 c.pieces.invariant.2 added.2,
+      one_more_piece c.args.text.now c.pieces.at c.find_from-end.result c.after_comment-stop.result done added.0 c.pieces-test.true c.find_from-end.ensures c.after_comment-stop.ensures.ends added.1 c.pieces.invariant.1,
+      written_more (vec_items c.pieces.bytes) (vec_items c.add_piece.new.out) done added.0 c.pieces.invariant.2 added.2,
     )
 
 pub returns : goal.returns
