@@ -1,9 +1,11 @@
 -- The parts of a readable text.
 use Rattle.std.specs.Prelude.{◌≡◌, ℕ, ◌<◌, ◌≤◌, Bool, true, false, not, ◌||◌, List, length, codes, ◌==◌, slice_index}
+use Rattle.stream.specs.declared.Command.{Command}
 use Rattle.parsing.specs.declared.Wrong.{Wrong}
 use Rattle.parsing.specs.declared.Wrong.TheVariants.{NoCommand, NoNumber, TooFew, TooMany, DoesNotFit}
 use Rattle.notation.specs.declared.scanning.Stop.{Stop}
 use Rattle.notation.specs.declared.scanning.Stop.TheVariants.{Blank, Word, CommandEnd, LineEnd}
+use Rattle.notation.specs.Showing.{spellings}
 
 -- a space, a tab or a return
 abbrev pub is_blank : ℕ → Bool
@@ -28,6 +30,10 @@ pub record FirstStop (text : List ℕ) (at : ℕ) (stop : Stop) (r : ℕ) : Type
   pub within : at ≤ length text → r ≤ length text
   pub before : (k : ℕ) → at ≤ k → k < r → stops_at stop (slice_index text k) ≡ false
   pub here : r < length text → stops_at stop (slice_index text r) ≡ true
+
+-- bytes that are one command after another
+abbrev pub Commands : List ℕ → Type 0
+Commands bytes = (commands : List Command) × (bytes ≡ spellings commands)
 
 -- what is wrong with a command as it is written down
 abbrev pub in_words : Wrong → List ℕ

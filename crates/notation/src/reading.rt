@@ -1,7 +1,7 @@
 //! From readable text to the bytes of a stream.
 
 ghost use Rattle.std.specs.Prelude.{◌≡◌, ◌+◌, ◌≤◌, length, drop, IfOk, MatchBool, OnOk, ◌==◌, slice_index};
-ghost use Rattle.notation.specs.Scanning.{FirstStop, in_words};
+ghost use Rattle.notation.specs.Scanning.{Commands, FirstStop, in_words};
 ghost use Rattle.notation.specs.Writing.{Added, Numbers, StreamOf};
 ghost use Rattle.notation.specs.declared.scanning.Stop.TheVariants.{LineEnd};
 
@@ -93,7 +93,8 @@ fn add_piece(heap: Global, out: &mut Vec<u8>, piece: &[u8]) -> Result<(), Unread
 
 /// The bytes of the commands that a text writes.
 pub fn to_bytes(heap: Global, text: &[u8]) -> Result<Vec<u8>, TextFault>
-    ensures { IfOk result (λ v. StreamOf text.now v.items) }
+    ensures commands { IfOk result (λ v. Commands v.items) }
+    ensures written { IfOk result (λ v. StreamOf text.now v.items) }
 {
     let mut bytes = Vec::new(heap);
     let mut line: u32 = 1;

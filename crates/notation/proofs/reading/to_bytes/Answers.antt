@@ -13,4 +13,9 @@ pieces-preserved c =
     )
 
 pub returns : goal.returns
-returns c = (c.pieces.invariant.0, all_done c.args.text.now c.pieces.at c.pieces.invariant.0 c.pieces-test.false c.pieces.invariant.1, c.pieces.invariant.2)
+returns c =
+    let done = c.pieces.invariant.0 in
+    record {
+      commands = (done, c.pieces.invariant.2);
+      written = (done, all_done c.args.text.now c.pieces.at done c.pieces-test.false c.pieces.invariant.1, c.pieces.invariant.2);
+    }
