@@ -5,4 +5,5 @@ mod fills;
 mod reads;
 mod sheet;
 
+pub use auction::bounds::{MOST_LINES, MOST_ORDERS};
 pub use sheet::Sheet;
