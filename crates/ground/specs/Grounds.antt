@@ -1,5 +1,5 @@
 -- What one command of the network block makes of the network as far as it was given.
-use Rattle.std.specs.Prelude.{◌≡◌, Bool, true, false, ◌&&◌, [], replicate, Ok, Err, MatchBool, Result}
+use Rattle.std.specs.Prelude.{◌≡◌, Bool, false, ◌&&◌, [], replicate, Ok, Err, MatchBool, Result}
 use Rattle.auction.specs.declared.Refusal.{Refusal}
 use Rattle.auction.specs.declared.Refusal.TheVariants.{NotNow}
 use Rattle.auction.specs.Bounds.{most_lines}
