@@ -44,8 +44,10 @@ mod tests {
         }
         assert!(rt; matches!(reader.next(), Ok(None)));
         // 3000 is 0xbb8, and 3000000 is 0x2dc6c0
-        assert!(rt; &bytes.as_slice()[13..24] == b"O\x00\x00\xb8\x0b\x00\x00\x64\x00\x00\x00");
-        assert!(rt; &bytes.as_slice()[75..81] == b"L\x00\xc0\xc6\x2d\x00");
+        assert!(rt;
+            &bytes.as_slice()[13..24] == b"O\x00\x00\xb8\x0b\x00\x00\x64\x00\x00\x00".as_slice()
+        );
+        assert!(rt; &bytes.as_slice()[75..81] == b"L\x00\xc0\xc6\x2d\x00".as_slice());
         Ok(())
     }
 
@@ -63,7 +65,9 @@ mod tests {
         );
         let again = bytes_of(&rt, text.as_str())?;
         assert!(rt; again.as_slice() == bytes.as_slice());
-        assert!(rt; &bytes.as_slice()[0..11] == b"Y\x03R\x07\x00\x00\x00\xff\xff\xe8\x03");
+        assert!(rt;
+            &bytes.as_slice()[0..11] == b"Y\x03R\x07\x00\x00\x00\xff\xff\xe8\x03".as_slice()
+        );
         Ok(())
     }
 
