@@ -12,15 +12,15 @@ use Rattle.answers.specs.Courses.{Given, BlockRead, block_bytes, block_line, blo
 pub none_given : (bytes : List ℕ) (at : ℕ) (text : List ℕ) → at ≡ 0 → text ≡ [] → BlockRead bytes at text (Base Nothing)
 none_given bytes at text start blank = record { given = []; spells = ap (λ n. take n bytes) start; placed = tt; course = refl; written = blank }
 
-pub one_given : (bytes : List ℕ) (at : ℕ) (text : List ℕ) (ground : Ground) (at' : ℕ) (text' : List ℕ) (ground' : Ground) (offset : ℕ) (command : Command) (a : BlockAnswer)
-    → BlockRead bytes at text ground → opened_ground ground ≡ false
+pub one_given : (bytes : List ℕ) (at : ℕ) (text : List ℕ) (footing : Ground) (at' : ℕ) (text' : List ℕ) (footing' : Ground) (offset : ℕ) (command : Command) (a : BlockAnswer)
+    → BlockRead bytes at text footing → opened_ground footing ≡ false
     → offset ≡ at → take at' bytes ≡ take at bytes ++ spelled command → at < at' → at' ≤ length bytes
-    → Takes ground command a ground' → text' ≡ text ++ block_line offset (letter_of command) a
-    → BlockRead bytes at' text' ground'
-one_given bytes at text ground at' text' ground' offset command a so shut is spells on within takes says = record {
+    → Takes footing command a footing' → text' ≡ text ++ block_line offset (letter_of command) a
+    → BlockRead bytes at' text' footing'
+one_given bytes at text footing at' text' footing' offset command a so shut is spells on within takes says = record {
   given = record { offset = offset; command = command; answer = a } ∷ so.given;
   spells = spells ∙ ap (λ b. b ++ spelled command) so.spells;
   placed = (is ∙ sym (length-take-le at bytes (omega arith)) ∙ ap length so.spells, so.placed);
-  course = (ground, so.course, shut, takes);
+  course = (footing, so.course, shut, takes);
   written = says ∙ ap (λ t. t ++ block_line offset (letter_of command) a) so.written;
 }

@@ -19,8 +19,8 @@ pub record Given : Type 0 where
 
 -- What the commands, the newest first, made of the network: nothing was given at first, and each was answered while the box was not open.
 abbrev pub Course : List Given → Ground → Type 0
-Course [] ground = ground ≡ Base Nothing
-Course (x ∷ t) ground = (before : Ground) × Course t before × (opened_ground before ≡ false) × Takes before x.command x.answer ground
+Course [] footing = footing ≡ Base Nothing
+Course (x ∷ t) footing = (before : Ground) × Course t before × (opened_ground before ≡ false) × Takes before x.command x.answer footing
 
 -- the bytes that spell the commands
 abbrev pub block_bytes : List Given → List ℕ
@@ -41,11 +41,11 @@ block_lines [] = []
 block_lines (x ∷ t) = block_lines t ++ block_line x.offset (letter_of x.command) x.answer
 
 -- the network block of a stream up to a place, and what was written of it
-pub record BlockRead (bytes : List ℕ) (at : ℕ) (text : List ℕ) (ground : Ground) : Type 0 where
+pub record BlockRead (bytes : List ℕ) (at : ℕ) (text : List ℕ) (footing : Ground) : Type 0 where
   pub given : List Given
   pub spells : take at bytes ≡ block_bytes given
   pub placed : BlockPlaced given
-  pub course : Course given ground
+  pub course : Course given footing
   pub written : text ≡ block_lines given
 
 -- the network that a block gave
@@ -55,28 +55,28 @@ ground_grid (OverTree layered) = layered_grid grid_of_tree layered
 ground_grid (OverTable layered) = layered_grid table_grid layered
 
 -- The block was read: up to the command that opened the box, where the reader stands; or reading ended.
-pub record BlockEnded (bytes : List ℕ) (ground : Ground) (bytes' : List ℕ) (at' : ℕ) (text' : List ℕ) : Type 0 where
+pub record BlockEnded (bytes : List ℕ) (footing : Ground) (bytes' : List ℕ) (at' : ℕ) (text' : List ℕ) : Type 0 where
   pub at : ℕ
   pub block : List ℕ
-  pub block_read : BlockRead bytes at block ground
-  pub stands : MatchBool (opened_ground ground) ((bytes' ≡ bytes) × (at' ≡ at) × (text' ≡ block)) (Ended bytes at block text')
+  pub block_read : BlockRead bytes at block footing
+  pub stands : MatchBool (opened_ground footing) ((bytes' ≡ bytes) × (at' ≡ at) × (text' ≡ block)) (Ended bytes at block text')
 
 -- The lines of the network block of a stream: up to the command that opened the box, with nothing after it, or up to where reading ended.
 pub record BlockAnswered (bytes text : List ℕ) : Type 0 where
-  pub ground : Ground
+  pub footing : Ground
   pub at : ℕ
   pub block : List ℕ
-  pub block_read : BlockRead bytes at block ground
-  pub rest : MatchBool (opened_ground ground) (text ≡ block) (Ended bytes at block text)
+  pub block_read : BlockRead bytes at block footing
+  pub rest : MatchBool (opened_ground footing) (text ≡ block) (Ended bytes at block text)
 
 -- the hours over the network that a block gave; nothing more is read where it did not open the box
 abbrev pub HoursIfOpened : StreamKinds → Ground → List ℕ → ℕ → List ℕ → List ℕ → Type 0
-HoursIfOpened k ground bytes at before after = MatchBool (opened_ground ground) (HoursAnswered k (ground_grid ground) bytes at before after) (after ≡ before)
+HoursIfOpened k footing bytes at before after = MatchBool (opened_ground footing) (HoursAnswered k (ground_grid footing) bytes at before after) (after ≡ before)
 
 -- The lines of a whole stream: those of its network block; and if the block opened the box, those of the hours over the network that it gave, with all that both houses rely on, else where reading ended.
 pub record StreamAnswered (k : StreamKinds) (bytes text : List ℕ) : Type 0 where
-  pub ground : Ground
+  pub footing : Ground
   pub at : ℕ
   pub block : List ℕ
-  pub block_read : BlockRead bytes at block ground
-  pub rest : MatchBool (opened_ground ground) (HoursAnswered k (ground_grid ground) bytes at block text) (Ended bytes at block text)
+  pub block_read : BlockRead bytes at block footing
+  pub rest : MatchBool (opened_ground footing) (HoursAnswered k (ground_grid footing) bytes at block text) (Ended bytes at block text)

@@ -30,25 +30,25 @@ pub(crate) fn read_block(
     reader: &mut Reader<'_>,
 ) -> Result<Ground, AllocError>
     requires { (reader.old.at ≡ 0) × (string_bytes lines.old ≡ []) }
-    ensures { IfOk result (λ ground. BlockEnded reader.old.bytes.now ground reader.new.bytes.now reader.new.at (string_bytes lines.new)) }
+    ensures { IfOk result (λ footing. BlockEnded reader.old.bytes.now footing reader.new.bytes.now reader.new.at (string_bytes lines.new)) }
 {
-    let mut ground = Ground::Base {
+    let mut footing = Ground::Base {
         draft: Draft::Nothing,
     };
     'commands: loop {
-        if ground.is_open() {
-            return Ok(ground);
+        if footing.is_open() {
+            return Ok(footing);
         }
         match next_command(reader) {
             Err(fault) => {
                 let said = refused_line(heap, &fault)?;
                 lines.push_str(said.as_str())?;
-                return Ok(ground);
+                return Ok(footing);
             }
-            Ok(None) => return Ok(ground),
+            Ok(None) => return Ok(footing),
             Ok(Some(placed)) => {
-                let (after, answer) = take(ground, &placed.command);
-                ground = after;
+                let (after, answer) = take(footing, &placed.command);
+                footing = after;
                 let said = line(heap, &placed, answer)?;
                 lines.push_str(said.as_str())?;
             }

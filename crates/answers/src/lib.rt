@@ -21,15 +21,15 @@ fn hear(
     heap: Global,
     lines: &mut String,
     reader: &mut Reader<'_>,
-    ground: Ground,
+    footing: Ground,
 ) -> Result<(), AllocError>
-    ensures { OnOk result (HoursIfOpened power_kinds ground reader.old.bytes.now reader.old.at (string_bytes lines.old) (string_bytes lines.new)) }
+    ensures { OnOk result (HoursIfOpened power_kinds footing reader.old.bytes.now reader.old.at (string_bytes lines.old) (string_bytes lines.new)) }
 {
-    if !ground.is_open() {
+    if !footing.is_open() {
         return Ok(());
     }
     let (offers, bids, transfers) = (Offers::new(), Bids::new(), Transfers::new());
-    match ground {
+    match footing {
         Ground::Base { .. } => Ok(()),
         Ground::OverTree { layered } => hear_hours(
             heap,
@@ -68,7 +68,7 @@ pub fn stream_answers(heap: Global, stream: &[u8]) -> Result<String, AllocError>
 {
     let mut lines = String::new(heap);
     let mut reader = Reader::new(stream);
-    let ground = read_block(heap, &mut lines, &mut reader)?;
-    hear(heap, &mut lines, &mut reader, ground)?;
+    let footing = read_block(heap, &mut lines, &mut reader)?;
+    hear(heap, &mut lines, &mut reader, footing)?;
     Ok(lines)
 }

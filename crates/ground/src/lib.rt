@@ -33,10 +33,10 @@ impl Ground {
 }
 
 /// One more command of the block.
-pub fn take(ground: Ground, command: &Command) -> (Ground, Result<(), Refusal>)
-    ensures { Takes ground command.now result.1 result.0 }
+pub fn take(footing: Ground, command: &Command) -> (Ground, Result<(), Refusal>)
+    ensures { Takes footing command.now result.1 result.0 }
 {
-    match ground {
+    match footing {
         Ground::Base { draft } => take_on_base(draft, command),
         Ground::OverTree { mut layered } => {
             let answer = layered.lay(command);

@@ -11,22 +11,22 @@ use Rattle.answers.proofs.hear.Goals as goal
 
 pub returns-in-OverTree : goal.returns-in-OverTree
 returns-in-OverTree c =
-    let is-opened : opened_ground c.args.ground ≡ true = sym c.is_open.ensures ∙ c.if-not-is_open.false in
+    let is-opened : opened_ground c.args.footing ≡ true = sym c.is_open.ensures ∙ c.if-not-is_open.false in
     let grid : Grid = network_grid grid_of_tree c.into_network.result in
-    let same : grid ≡ ground_grid c.args.ground = ap (network_grid grid_of_tree) c.into_network.ensures ∙ sym (ap ground_grid c.in-OverTree.is) in
+    let same : grid ≡ ground_grid c.args.footing = ap (network_grid grid_of_tree) c.into_network.ensures ∙ sym (ap ground_grid c.in-OverTree.is) in
     IfOk-weaker c.hear_hours.result
     (λ _. HoursAnswered power_kinds grid c.args.reader.now.bytes.now c.args.reader.now.at (string_bytes c.args.lines.now) (string_bytes c.hear_hours.new.lines))
-    (λ _. HoursIfOpened power_kinds c.args.ground c.args.reader.now.bytes.now c.args.reader.now.at (string_bytes c.args.lines.now) (string_bytes c.hear_hours.new.lines))
-    (λ _ heard. heard_opened power_kinds c.args.ground grid c.args.reader.now.bytes.now c.args.reader.now.at (string_bytes c.args.lines.now) (string_bytes c.hear_hours.new.lines) is-opened same heard)
+    (λ _. HoursIfOpened power_kinds c.args.footing c.args.reader.now.bytes.now c.args.reader.now.at (string_bytes c.args.lines.now) (string_bytes c.hear_hours.new.lines))
+    (λ _ heard. heard_opened power_kinds c.args.footing grid c.args.reader.now.bytes.now c.args.reader.now.at (string_bytes c.args.lines.now) (string_bytes c.hear_hours.new.lines) is-opened same heard)
     c.hear_hours.ensures
 
 pub returns-in-OverTable : goal.returns-in-OverTable
 returns-in-OverTable c =
-    let is-opened : opened_ground c.args.ground ≡ true = sym c.is_open.ensures ∙ c.if-not-is_open.false in
+    let is-opened : opened_ground c.args.footing ≡ true = sym c.is_open.ensures ∙ c.if-not-is_open.false in
     let grid : Grid = network_grid table_grid c.into_network-in-OverTable.result in
-    let same : grid ≡ ground_grid c.args.ground = ap (network_grid table_grid) c.into_network-in-OverTable.ensures ∙ sym (ap ground_grid c.in-OverTable.is) in
+    let same : grid ≡ ground_grid c.args.footing = ap (network_grid table_grid) c.into_network-in-OverTable.ensures ∙ sym (ap ground_grid c.in-OverTable.is) in
     IfOk-weaker c.hear_hours-in-OverTable.result
     (λ _. HoursAnswered power_kinds grid c.args.reader.now.bytes.now c.args.reader.now.at (string_bytes c.args.lines.now) (string_bytes c.hear_hours-in-OverTable.new.lines))
-    (λ _. HoursIfOpened power_kinds c.args.ground c.args.reader.now.bytes.now c.args.reader.now.at (string_bytes c.args.lines.now) (string_bytes c.hear_hours-in-OverTable.new.lines))
-    (λ _ heard. heard_opened power_kinds c.args.ground grid c.args.reader.now.bytes.now c.args.reader.now.at (string_bytes c.args.lines.now) (string_bytes c.hear_hours-in-OverTable.new.lines) is-opened same heard)
+    (λ _. HoursIfOpened power_kinds c.args.footing c.args.reader.now.bytes.now c.args.reader.now.at (string_bytes c.args.lines.now) (string_bytes c.hear_hours-in-OverTable.new.lines))
+    (λ _ heard. heard_opened power_kinds c.args.footing grid c.args.reader.now.bytes.now c.args.reader.now.at (string_bytes c.args.lines.now) (string_bytes c.hear_hours-in-OverTable.new.lines) is-opened same heard)
     c.hear_hours-in-OverTable.ensures
