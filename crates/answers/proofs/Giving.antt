@@ -7,7 +7,7 @@ use Rattle.block.specs.declared.draft.Draft.TheVariants.{Nothing}
 use Rattle.ground.specs.declared.Ground.{Ground}
 use Rattle.ground.specs.declared.Ground.TheVariants.{Base}
 use Rattle.ground.specs.Grounds.{BlockAnswer, Takes, opened_ground}
-use Rattle.answers.specs.Courses.{Given, BlockRead, block_bytes, block_line, block_lines}
+use Rattle.answers.specs.Courses.{BlockRead, block_line}
 
 pub none_given : (bytes : List ℕ) (at : ℕ) (text : List ℕ) → at ≡ 0 → text ≡ [] → BlockRead bytes at text (Base Nothing)
 none_given bytes at text start blank = record { given = []; spells = ap (λ n. take n bytes) start; placed = tt; course = refl; written = blank }

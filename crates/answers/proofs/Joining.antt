@@ -1,10 +1,10 @@
 -- The block and the hours, put together.
-use Rattle.std.proofs.Common.{◌≡◌, ℕ, Bool, true, false, List, MatchBool, sym, refl, ◌∙◌, subst}
+use Rattle.std.proofs.Common.{◌≡◌, ℕ, Bool, true, false, List, MatchBool, sym, subst}
 use Rattle.auction.specs.Grids.{Grid}
 use Rattle.ground.specs.declared.Ground.{Ground}
 use Rattle.ground.specs.Grounds.{opened_ground}
 use Rattle.hours.specs.Transcripts.{StreamKinds, Ended, HoursAnswered}
-use Rattle.answers.specs.Courses.{ground_grid, BlockRead, BlockEnded, BlockAnswered, HoursIfOpened, StreamAnswered}
+use Rattle.answers.specs.Courses.{ground_grid, BlockEnded, BlockAnswered, HoursIfOpened, StreamAnswered}
 
 -- where the box was opened, the hours begin where the block ended; else reading had ended
 rest_of : (k : StreamKinds) (bytes : List ℕ) (footing : Ground) (b : Bool) (at : ℕ) (block bytes' : List ℕ) (at' : ℕ) (mid text : List ℕ)

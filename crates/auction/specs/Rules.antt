@@ -1,5 +1,5 @@
 -- The rules of a sheet, each at each of its places, in their order.
-use Rattle.std.specs.Prelude.{◌≡◌, ℕ, ◌<◌, true, length, Ok, Err, Result}
+use Rattle.std.specs.Prelude.{◌≡◌, ◌<◌, true, length}
 use Rattle.auction.specs.declared.Broken.{Broken}
 use Rattle.auction.specs.declared.Broken.TheVariants.{Quantity, Balance, Flow, ZonePrice, Binding, Contentment}
 use Rattle.auction.specs.Refusals.{broken_number, broken_place}

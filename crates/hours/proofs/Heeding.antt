@@ -1,5 +1,5 @@
 -- A command that makes a call, and one that makes none.
-use Rattle.std.proofs.Common.{◌≡◌, ℕ, Some, None, Err, Option, sym, refl, ◌∙◌, subst, arith}
+use Rattle.std.proofs.Common.{◌≡◌, ℕ, Some, None, Err, refl, subst, arith}
 use Rattle.auction.specs.declared.Refusal.TheVariants.{NotNow}
 use Rattle.network.specs.declared.Network.{Ghosts as NetworkMeaning}
 use Rattle.orders.specs.declared.OrderList.{Ghosts as ListMeaning}

@@ -1,5 +1,5 @@
 -- One command more, and the end.
-use Rattle.std.proofs.Common.{◌≡◌, ℕ, ◌+◌, ◌<◌, ◌≤◌, ◌⊎◌, List, [], ◌∷◌, ◌++◌, length, take, ℤ, None, Err, sym, refl, ap, ◌∙◌, subst, inl, inr, append_assoc, append-nil, arith, length-append}
+use Rattle.std.proofs.Common.{◌≡◌, ℕ, ◌+◌, ◌<◌, ◌≤◌, List, [], ◌∷◌, ◌++◌, length, take, ℤ, None, Err, sym, ap, ◌∙◌, subst, append_assoc, append-nil, arith, length-append}
 use Rattle.std.proofs.lemmas.List.{length-take-le}
 use Rattle.auction.specs.declared.House.TheVariants.{Zero, One}
 use Rattle.auction.specs.declared.Refusal.TheVariants.{NotNow}
@@ -12,7 +12,7 @@ use Rattle.history.specs.Situations.{Situation}
 use Rattle.history.specs.Keeping.{Keeps}
 use Rattle.history.proofs.Promised.{promised}
 use Rattle.hours.specs.Calls.{call_of}
-use Rattle.hours.specs.Transcripts.{StreamKinds, Heard, with_call, history_of, bytes_of, WellPlaced, BlockOver, line_of, lines_of, Sofar, Ended, HoursAnswered}
+use Rattle.hours.specs.Transcripts.{StreamKinds, Heard, with_call, history_of, bytes_of, line_of, lines_of, Sofar, Ended, HoursAnswered}
 
 -- nothing heard yet
 pub none_heard : (k : StreamKinds) (g : Grid) (bytes : List ℕ) (start : ℕ) (before : List ℕ) (held : Situation) → Keeps k g [] held → Sofar k g bytes start before start before held

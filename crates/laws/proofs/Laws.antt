@@ -1,5 +1,5 @@
 -- The proofs of the three laws.
-use Rattle.std.proofs.Common.{◌≡◌, ℕ, zero, suc, ◌<◌, ◌≤◌, Bool, true, false, cond, eqb, length, ℤ, pos, ◌+ℤ◌, ◌-ℤ◌, ◌*ℤ◌, neg_ℤ, ◌≤ℤ◌, MatchBool, sym, refl, ap, ◌∙◌, subst, ⊎_elim, arith}
+use Rattle.std.proofs.Common.{◌≡◌, ℕ, zero, suc, ◌<◌, Bool, true, false, cond, eqb, ℤ, pos, ◌+ℤ◌, ◌-ℤ◌, ◌*ℤ◌, neg_ℤ, ◌≤ℤ◌, MatchBool, sym, refl, ap, ◌∙◌, subst, ⊎_elim, arith}
 use borrow.Author.Differences.{ints}
 use Rattle.std.proofs.lemmas.Bool.{cases_order}
 use Rattle.auction.specs.Refusals.{broken_number, broken_place}
@@ -7,7 +7,7 @@ use Rattle.auction.specs.declared.Broken.{Broken}
 use Rattle.auction.specs.declared.Broken.TheVariants.{Quantity, Balance, Flow, ZonePrice, Binding, Contentment}
 use Rattle.auction.specs.Grids.{Grid, line_count, limit_at}
 use Rattle.auction.specs.Orders.{Order, Possible, ZonePrices, Content, gain, proceeds}
-use Rattle.auction.specs.Hours.{Book, Dispatch, Entry, Prices, Feasible, Takes, Balanced, list_at, entry_at, over_orders, welfare_of, amount_of, flow_over, rent_of, exact_rent, charge, zone_prices}
+use Rattle.auction.specs.Hours.{Book, Dispatch, Entry, Prices, Feasible, Takes, entry_at, over_orders, welfare_of, amount_of, flow_over, exact_rent, charge, zone_prices}
 use Rattle.auction.specs.Rules.{Accepted, FirstBroken, Met}
 use Rattle.laws.specs.Laws.{OptimalityLaw, RentLaw, InterchangeLaw, OneVerdictLaw}
 use Rattle.laws.proofs.Limits.{binding_earns_most, binding_earns_rent, binding_shared}

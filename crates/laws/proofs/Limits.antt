@@ -1,8 +1,8 @@
 -- The three facts about a line's limit on which the laws rest. A change of what a limit means is proved again here alone.
-use Rattle.std.proofs.Common.{◌≡◌, ℕ, zero, suc, ◌*◌, ◌<◌, ℤ, pos, ◌*ℤ◌, ◌≤ℤ◌, sym, refl, ap, ◌∙◌, subst, mul_assoc, mul_comm, zero-mul, arith}
+use Rattle.std.proofs.Common.{◌≡◌, ℕ, zero, suc, ◌*◌, ℤ, pos, ◌*ℤ◌, ◌≤ℤ◌, sym, ap, ◌∙◌, subst, mul_assoc, mul_comm, zero-mul, arith}
 use borrow.Author.Differences.{ints}
 use lib.IntN.{zero-*ℤ}
-use Rattle.auction.specs.Limits.{Limit, capacity, WithinLimit, Binds, line_rent}
+use Rattle.auction.specs.Limits.{Limit, WithinLimit, Binds, line_rent}
 use Rattle.laws.proofs.Ring.{mul_le, mul_cancel}
 
 -- no flow within the limit earns more at the shadow price than the binding one

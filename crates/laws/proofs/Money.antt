@@ -1,5 +1,5 @@
 -- What all orders together gain and are paid, told by welfare-of and by the shadow prices of the lines.
-use Rattle.std.proofs.Common.{◌≡◌, ℕ, ◌<◌, true, cond, ltb, ℤ, pos, ◌+ℤ◌, ◌-ℤ◌, ◌*ℤ◌, neg_ℤ, ◌≤ℤ◌, sym, refl, ap, ◌∙◌, subst, arith, lt-ltb}
+use Rattle.std.proofs.Common.{◌≡◌, ℕ, ◌<◌, cond, ℤ, pos, ◌+ℤ◌, ◌-ℤ◌, ◌*ℤ◌, neg_ℤ, sym, ap, ◌∙◌, arith, lt-ltb}
 use borrow.Author.Differences.{ints}
 use lib.IntN.{*ℤ-zero}
 use Rattle.auction.specs.Sums.{Σ}

@@ -1,4 +1,3 @@
-use Rattle.std.proofs.Common.{sym, ◌∙◌}
 use Rattle.hours.proofs.Heeding.{makes_call, makes_none}
 use Rattle.hours.proofs.answering.answer.Goals as goal
 
