@@ -22,6 +22,7 @@ OWN = {
     "to-child": "share_to_child",
 }
 WORD = re.compile(r"""[^\s(){}.;,@"«»]+""")
+INNER = re.compile(r"(?m)^ +(?:abbrev |unfoldable |pub )*([^\s:(){};,.]+)(?: \{[^\n]*\})? :\s")
 MADE = ("Answers.antt", "Invariants.antt", "Choices.antt", "Proof.antt")
 
 
@@ -34,7 +35,8 @@ def files(root, ends):
 
 
 def declared(path):
-    """Each name that the file declares."""
+    """Each name that the file declares, inside sections and behind a `where` too. In a file of answers the goals' names are Rattle's own."""
+    made = os.path.basename(path) in MADE and "/proofs/" in path
     with open(path, encoding="utf-8") as it:
         text = re.sub(r"--[^\n]*", "", it.read())
     for item in re.split(r"\n(?=\S)", text):
@@ -42,15 +44,15 @@ def declared(path):
         m = re.match(r"(?:pub )?(record|data) (?:pub )?([^\s:(){};]+)", one)
         if m:
             yield m[2]
-            for f in re.finditer(r"(?m)^ +(?:pub )?([^\s:(){};,.]+)(?: \{[^\n]*\})? :\s", item):
-                yield f[1]
+            yield from (f[1] for f in INNER.finditer(item))
             continue
-        m = re.match(r"(?:abbrev |unfoldable |pub )*([^\s:(){};,.]+)(?: *\{[^{}]*\})* : ", one)
-        if m and m[1] not in ("use", "open", "let"):
+        m = re.match(r"(?:abbrev |unfoldable |pub )*([^\s:(){};,.]+)(?: *\{[^{}]*\})* : (\S+)", one)
+        if m and m[1] not in ("use", "open", "let") and not (made and m[2].startswith("goal.")):
             yield m[1]
         if re.match(r"(?:pub )?module\b", one):
-            for f in re.finditer(r"(?m)^ +(?:abbrev |unfoldable |pub )*([^\s:(){};,.]+)(?: \{[^\n]*\})? :\s", item):
-                yield f[1]
+            yield from (f[1] for f in INNER.finditer(item))
+        for local in re.split(r"\n +where\n", item)[1:]:
+            yield from (f[1] for f in INNER.finditer(local))
 
 
 def snake(name):
@@ -78,8 +80,6 @@ def spelled(name):
 def table(root):
     names = set()
     for path in files(root, (".antt",)):
-        if "/proofs/" in path and os.path.basename(path) in MADE:
-            continue
         names.update(declared(path))
     turned = {n: spelled(n) for n in names}
     return names, {n: s for n, s in turned.items() if s != n}

@@ -31,10 +31,10 @@ module _ (f : ℕ → ℤ) (k : ℕ) where
 -- terms that are 0 add nothing
 pub Σ_beyond : (f : ℕ → ℤ) (n k : ℕ) → ((i : ℕ) → n ≤ i → f i ≡ pos 0) → Σ (k + n) f ≡ Σ n f
 unfolding Σ
-Σ_beyond f n zero h = ap (λ m. Σ m f) (zero-first n)
+Σ_beyond f n zero h = ap (λ m. Σ m f) (zero_first n)
   where
-    zero-first : (n : ℕ) → 0 + n ≡ n
-    zero-first n = omega arith
+    zero_first : (n : ℕ) → 0 + n ≡ n
+    zero_first n = omega arith
 Σ_beyond f n (suc k) h = ap (λ m. Σ m f) (one_out k n) ∙ last (Σ (k + n) f) (f (k + n)) (Σ n f) (Σ_beyond f n k h) (h (k + n) (omega arith))
   where
     one_out : (k n : ℕ) → suc k + n ≡ suc (k + n)

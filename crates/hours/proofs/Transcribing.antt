@@ -49,14 +49,14 @@ one_more k g bytes start before at text held at' text' held' offset command a ze
     keeps' : Keeps k g (history_of (x ∷ so.transcript)) held'
     keeps' = goes_on (history_of so.transcript) so.keeps
 
-    same-zero : zero ≡ account k g (history_of (x ∷ so.transcript)) Zero
-    same-zero = ez ∙ ap (λ s. s.account Zero) keeps'.as_told
+    same_zero : zero ≡ account k g (history_of (x ∷ so.transcript)) Zero
+    same_zero = ez ∙ ap (λ s. s.account Zero) keeps'.as_told
 
-    same-one : one ≡ account k g (history_of (x ∷ so.transcript)) One
-    same-one = eo ∙ ap (λ s. s.account One) keeps'.as_told
+    same_one : one ≡ account k g (history_of (x ∷ so.transcript)) One
+    same_one = eo ∙ ap (λ s. s.account One) keeps'.as_told
 
     same_line : line_of offset (letter_of command) a zero one ≡ line_of offset (letter_of command) a (account k g (history_of (x ∷ so.transcript)) Zero) (account k g (history_of (x ∷ so.transcript)) One)
-    same_line = λ i. line_of offset (letter_of command) a (same-zero i) (same-one i)
+    same_line = λ i. line_of offset (letter_of command) a (same_zero i) (same_one i)
 
 -- the whole: what was heard so far, and the end
 pub all_heard : (k : StreamKinds) (g : Grid) (bytes : List ℕ) (start : ℕ) (before : List ℕ) (at : ℕ) (text : List ℕ) (held : Situation) (after : List ℕ) → Sofar k g bytes start before at text held → Ended bytes at text after → HoursAnswered k g bytes start before after

@@ -10,10 +10,10 @@ use Rattle.judgement.specs.Parts.{first_sum, first_kwh, Term}
 -- a sum of fewer natural numbers is not larger
 Σℕ_mono : (f : ℕ → ℕ) (i k : ℕ) → Σℕ i f ≤ Σℕ (k + i) f
 unfolding Σℕ
-Σℕ_mono f i zero = subst (λ (n : ℕ). Σℕ i f ≤ Σℕ n f) (zero-add' i) (omega arith)
+Σℕ_mono f i zero = subst (λ (n : ℕ). Σℕ i f ≤ Σℕ n f) (zero_add' i) (omega arith)
   where
-    zero-add' : (i : ℕ) → i ≡ 0 + i
-    zero-add' i = omega arith
+    zero_add' : (i : ℕ) → i ≡ 0 + i
+    zero_add' i = omega arith
 Σℕ_mono f i (suc k) = let h = Σℕ_mono f i k in subst (λ (n : ℕ). Σℕ i f ≤ Σℕ n f) (later i k) (omega arith)
   where
     later : (i k : ℕ) → suc (k + i) ≡ suc k + i

@@ -55,10 +55,10 @@ tight_here : (x y a b : ℤ) → x ≤ℤ y → a ≤ℤ b → (y +ℤ b) ≤ℤ
 tight_here x y a b p q r = (omega (arith, ints), omega (arith, ints))
 
 split_below : {P : ℕ → Type 0} (n : ℕ) → P n → ((i : ℕ) → i < n → P i) → (i : ℕ) → i < suc n → P i
-split_below {P} n top below i l = ⊎_elim (λ e. subst P (sym e) top) (below i) (top-or-below i n l)
+split_below {P} n top below i l = ⊎_elim (λ e. subst P (sym e) top) (below i) (top_or_below i n l)
   where
-    top-or-below : (i n : ℕ) → i < suc n → (i ≡ n) ⊎ (i < n)
-    top-or-below i n l = grind (arith, cases_eq i n)
+    top_or_below : (i n : ℕ) → i < suc n → (i ≡ n) ⊎ (i < n)
+    top_or_below i n l = grind (arith, cases_eq i n)
 
 -- where no term is larger and the sum is not smaller, all terms are equal
 pub Σ_tight : (n : ℕ) (f g : ℕ → ℤ) → ((i : ℕ) → i < n → f i ≤ℤ g i) → Σ n g ≤ℤ Σ n f → (i : ℕ) → i < n → f i ≡ g i

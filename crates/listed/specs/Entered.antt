@@ -24,29 +24,29 @@ use Rattle.listed.specs.Entries.{ByNumbers, order_by, entry_by, NoneEntered, Row
 abbrev Sized : ByNumbers → Type 0
 Sized m = (first second price quantity : ℕ) → (m first second price quantity).largest ≡ quantity
 
-entry_some : (m : ByNumbers) (rs : List Row) (n : ℕ) (r : Row) → Some r ≡ row_at rs n → entry (map (entry_by m) rs) n ≡ entry_by m r
+pub entry_some : (m : ByNumbers) (rs : List Row) (n : ℕ) (r : Row) → Some r ≡ row_at rs n → entry (map (entry_by m) rs) n ≡ entry_by m r
 entry_some m [] n r h = absurd (let z : ◌≡◌ {A = ℕ} 0 1 = cc in omega arith)
 entry_some m (x ∷ rs) zero r h = let e : x ≡ r = cc in ap (entry_by m) e
 entry_some m (x ∷ rs) (suc n) r h = entry_some m rs n r h
 
-inside : (m : ByNumbers) (rs : List Row) (n : ℕ) (r : Row) → Some r ≡ row_at rs n → n < length (map (entry_by m) rs)
+pub inside : (m : ByNumbers) (rs : List Row) (n : ℕ) (r : Row) → Some r ≡ row_at rs n → n < length (map (entry_by m) rs)
 inside m [] n r h = absurd (let z : ◌≡◌ {A = ℕ} 0 1 = cc in omega arith)
 inside m (x ∷ rs) zero r h = omega arith
 inside m (x ∷ rs) (suc n) r h = let e : n < length (map (entry_by m) rs) = inside m rs n r h in omega arith
 
-outside : (m : ByNumbers) (rs : List Row) (n : ℕ) → None ≡ row_at rs n → length (map (entry_by m) rs) ≤ n
+pub outside : (m : ByNumbers) (rs : List Row) (n : ℕ) → None ≡ row_at rs n → length (map (entry_by m) rs) ≤ n
 outside m [] n h = omega arith
 outside m (x ∷ rs) zero h = absurd (let z : ◌≡◌ {A = ℕ} 0 1 = cc in omega arith)
 outside m (x ∷ rs) (suc n) h = let e : length (map (entry_by m) rs) ≤ n = outside m rs n h in omega arith
 
-entry_past : (es : List Entry) (n : ℕ) → length es ≤ n → entry es n ≡ no_entry
+pub entry_past : (es : List Entry) (n : ℕ) → length es ≤ n → entry es n ≡ no_entry
 entry_past es n h = get_or_past es n no_entry h
 
-entry_none : (m : ByNumbers) (rs : List Row) (n : ℕ) → None ≡ row_at rs n → entry (map (entry_by m) rs) n ≡ no_entry
+pub entry_none : (m : ByNumbers) (rs : List Row) (n : ℕ) → None ≡ row_at rs n → entry (map (entry_by m) rs) n ≡ no_entry
 entry_none m rs n h = entry_past (map (entry_by m) rs) n (outside m rs n h)
 
 -- a row that is there is in range
-in_range_there : (rs : List Row) → ((k : ℕ) → k < length rs → Ranged (slice_index_or rs k no_row)) → (n : ℕ) (r : Row) → Some r ≡ row_at rs n → Ranged r
+pub in_range_there : (rs : List Row) → ((k : ℕ) → k < length rs → Ranged (slice_index_or rs k no_row)) → (n : ℕ) (r : Row) → Some r ≡ row_at rs n → Ranged r
 in_range_there [] ranged n r h = absurd (let z : ◌≡◌ {A = ℕ} 0 1 = cc in omega arith)
 in_range_there (x ∷ rs) ranged zero r h = let e : x ≡ r = cc in subst Ranged e (ranged 0 (omega arith))
 in_range_there (x ∷ rs) ranged (suc n) r h = in_range_there rs (λ k l. ranged (suc k) (omega arith)) n r h
@@ -127,8 +127,8 @@ row_entered m rs ranged n (Some r) h = record { there = inside m rs n r h; range
 row_entered m rs ranged n None h = record { past = outside m rs n h; nothing = entry_none m rs n h }
 
 -- a row in range makes an order
-pub order_some : {K : Type 0} (meaning : K → Order) (m : ByNumbers) (es : List Entry) (n : ℕ) (r : Row) → RowEntered m es n r → (o : Option K)
+pub order_read : {K : Type 0} (meaning : K → Order) (m : ByNumbers) (es : List Entry) (n : ℕ) (r : Row) → RowEntered m es n r → (o : Option K)
     → MatchOption o (Ranged r → ⊥) (λ k. Ranged r × (meaning k ≡ order_by m r))
     → MatchOption o (NoneEntered es n) (λ k. (n < length es) × (meaning k ≡ (entry es n).order))
-order_some meaning m es n r read (Some k) made = (read.there, made.1 ∙ sym (ap (λ (e : Entry). e.order) read.means))
-order_some meaning m es n r read None never = absurd (never read.ranged)
+order_read meaning m es n r read (Some k) made = (read.there, made.1 ∙ sym (ap (λ (e : Entry). e.order) read.means))
+order_read meaning m es n r read None never = absurd (never read.ranged)

@@ -1,6 +1,6 @@
 -- The ranges of the numbers of a line.
 use Rattle.std.specs.Prelude.{◌≡◌, ℕ, ◌≤◌, List, ℤ, pos, slice_index_or, unsigned_abs}
-use Rattle.auction.specs.Bounds.{most_kwh, most_sensitivity}
+pub use Rattle.auction.specs.Bounds.{most_zones, most_lines, most_kwh, most_sensitivity}
 
 -- only zones that are there have a sensitivity
 abbrev pub OfZones : ℕ → List ℤ → Type 0

@@ -32,12 +32,12 @@ up_to_word P one text i j within stop p =
     let there : j ≤ length text = stop.within within in
     let onward : i ≤ j = stop.onward in
     let sum : i + (j - i) ≡ j = omega arith in
-    let blanks : (k : ℕ) → i ≤ k → k < i + (j - i) → is_blank (get_or text k 0) ≡ true = λ k low high. let h : not (is_blank (get_or text k 0)) ≡ false = stop.before k low (omega arith) in not-blank (is_blank (get_or text k 0)) h in
+    let blanks : (k : ℕ) → i ≤ k → k < i + (j - i) → is_blank (get_or text k 0) ≡ true = λ k low high. let h : not (is_blank (get_or text k 0)) ≡ false = stop.before k low (omega arith) in not_blank (is_blank (get_or text k 0)) h in
     after_blanks P one text i (j - i) (omega arith) blanks (subst (λ (k : ℕ). P (drop k text)) (sym sum) p)
   where
-    not-blank : (b : Bool) → not b ≡ false → b ≡ true
-    not-blank true e = refl
-    not-blank false e = sym e
+    not_blank : (b : Bool) → not b ≡ false → b ≡ true
+    not_blank true e = refl
+    not_blank false e = sym e
 
 -- a word ends where the text stops at a blank
 pub word_ends : (text : List ℕ) (i j : ℕ) → FirstStop text i Blank j → WordEnds (drop j text)
@@ -74,13 +74,13 @@ one_found text from at end next found n there stop stop' is so =
         let from_end : Numbers (drop end text) rest = subst (λ (l : List ℕ). Numbers l rest) (sym (drop_more text end 0 inside)) (skip_blank (get_or text end 0) (drop (end + 1) text) rest (stop.here inside) after) in
         subst (λ (l : List ℤ). Numbers (drop from text) l) (sym (append_assoc found (n ∷ []) rest)) (put rest from_end)
 
-    at-end : (end < length text) ⊎ (length text ≤ end) → length text < next → length text ≤ end
-    at-end (inl inside) past = absurd (omega (arith, stop'.within (omega arith)))
-    at-end (inr ends) past = ends
+    at_end : (end < length text) ⊎ (length text ≤ end) → length text < next → length text ≤ end
+    at_end (inl inside) past = absurd (omega (arith, stop'.within (omega arith)))
+    at_end (inr ends) past = ends
 
     whole : length text < next → Numbers (drop from text) (found ++ (n ∷ []))
     whole past =
-        let ends : length text ≤ end = at-end (cases_lt end (length text)) past in
+        let ends : length text ≤ end = at_end (cases_lt end (length text)) past in
         put [] (subst (λ (l : List ℕ). Numbers l []) (sym (drop_all end text ends)) no_number)
 
 pub all_found : (text : List ℕ) (from at : ℕ) (found : List ℤ) → length text ≤ at → Found text from at found → Numbers (drop from text) found
@@ -148,8 +148,8 @@ after_comment : (text : List ℕ) (at end stop : ℕ) (done commands : List Comm
 after_comment text at end stop done commands onward inside hash line piece so =
     record { more = λ here rest ws. longer here rest ws; all = λ past. whole past }
   where
-    no-line-end : end + 1 ≤ stop → (k : ℕ) → k < length (take (stop - (end + 1)) (drop (end + 1) text)) → get_or (take (stop - (end + 1)) (drop (end + 1) text)) k 0 ≡ 10 → ⊥
-    no-line-end later k short is =
+    no_line_end : end + 1 ≤ stop → (k : ℕ) → k < length (take (stop - (end + 1)) (drop (end + 1) text)) → get_or (take (stop - (end + 1)) (drop (end + 1) text)) k 0 ≡ 10 → ⊥
+    no_line_end later k short is =
         let n : ℕ = stop - (end + 1) in
         let small : k < n = omega (arith, length-take n (drop (end + 1) text)) in
         let same : get_or (take n (drop (end + 1) text)) k 0 ≡ get_or text (end + 1 + k) 0 = get_or-take n (drop (end + 1) text) k 0 small ∙ get_or-drop (end + 1) text k 0 in
@@ -162,10 +162,10 @@ after_comment text at end stop done commands onward inside hash line piece so =
         let tail : comment ++ drop stop text ≡ drop (end + 1) text = cut text (end + 1) stop later in
         let head : drop end text ≡ 35 ∷ drop (end + 1) text = drop_more text end 0 inside ∙ ap (λ b. b ∷ drop (end + 1) text) hash in
         let split : take (end - at) (drop at text) ++ (35 ∷ (comment ++ drop stop text)) ≡ drop at text = ap (λ l. take (end - at) (drop at text) ++ (35 ∷ l)) tail ∙ ap (λ l. take (end - at) (drop at text) ++ l) (sym head) ∙ cut text at end onward in
-        so.more (omega arith) (commands ++ rest) (subst (λ (l : List ℕ). Writes l (commands ++ rest)) split (noted (take (end - at) (drop at text)) comment (drop stop text) commands rest piece (no-line-end later) ends ws))
+        so.more (omega arith) (commands ++ rest) (subst (λ (l : List ℕ). Writes l (commands ++ rest)) split (noted (take (end - at) (drop at text)) comment (drop stop text) commands rest piece (no_line_end later) ends ws))
 
-    ends-at-feed : (byte : ℕ) → byte ≡ 10 → EndsPiece byte
-    ends-at-feed byte e = subst EndsPiece (sym e) refl
+    ends_at_feed : (byte : ℕ) → byte ≡ 10 → EndsPiece byte
+    ends_at_feed byte e = subst EndsPiece (sym e) refl
 
     longer : stop + 1 ≤ length text → (rest : List Command) → Writes (drop (stop + 1) text) rest → Writes text ((done ++ commands) ++ rest)
     longer here rest ws =
@@ -173,7 +173,7 @@ after_comment text at end stop done commands onward inside hash line piece so =
         let feed : get_or text stop 0 ≡ 10 = eqb-true (get_or text stop 0) 10 (line.here inside') in
         let split : drop stop text ≡ get_or text stop 0 ∷ drop (stop + 1) text = drop_more text stop 0 inside' in
         let ends : LineEnds (drop stop text) = subst LineEnds (sym split) feed in
-        let one : Writes (drop stop text) rest = subst (λ (l : List ℕ). Writes l rest) (sym split) (ended [] (get_or text stop 0) (drop (stop + 1) text) [] rest no_command (ends-at-feed (get_or text stop 0) feed) ws) in
+        let one : Writes (drop stop text) rest = subst (λ (l : List ℕ). Writes l rest) (sym split) (ended [] (get_or text stop 0) (drop (stop + 1) text) [] rest no_command (ends_at_feed (get_or text stop 0) feed) ws) in
         subst (Writes text) (sym (append_assoc done commands rest)) (put rest ends one)
 
     whole : length text < stop + 1 → Writes text (done ++ commands)
@@ -186,7 +186,7 @@ after_comment text at end stop done commands onward inside hash line piece so =
 pub one_more_piece : (text : List ℕ) (at end stop : ℕ) (done commands : List Command) → at < length text → FirstStop text at CommandEnd end → MatchBool (eqb (get_or text end 0) 35) (FirstStop text (end + 1) LineEnd stop) (stop ≡ end) → Piece (take (end - at) (drop at text)) commands → Going text at done → Going text (stop + 1) (done ++ commands)
 one_more_piece text at end stop done commands there cut_at goes piece so =
     elim (cases_lt end (length text)) [
-      | inl inside ↦ by-hash (eqb (get_or text end 0) 35) refl inside goes
+      | inl inside ↦ by_hash (eqb (get_or text end 0) 35) refl inside goes
       | inr ends ↦ past_all ends (subst (λ (b : ℕ). MatchBool (eqb b 35) (FirstStop text (end + 1) LineEnd stop) (stop ≡ end)) (get_or_past text end 0 ends) goes)
     ]
   where
@@ -198,6 +198,6 @@ one_more_piece text at end stop done commands there cut_at goes piece so =
     past_all : length text ≤ end → stop ≡ end → Going text (stop + 1) (done ++ commands)
     past_all ends same = subst (λ (i : ℕ). Going text (i + 1) (done ++ commands)) (sym same) (at_the_end text at end done commands there cut_at.onward ends piece so)
 
-    by-hash : (b : Bool) → eqb (get_or text end 0) 35 ≡ b → end < length text → MatchBool b (FirstStop text (end + 1) LineEnd stop) (stop ≡ end) → Going text (stop + 1) (done ++ commands)
-    by-hash true is inside line = after_comment text at end stop done commands cut_at.onward inside (eqb-true (get_or text end 0) 35 is) line piece so
-    by-hash false is inside same = subst (λ (i : ℕ). Going text (i + 1) (done ++ commands)) (sym same) (after_ender text at end done commands cut_at.onward inside (ender (eqb (get_or text end 0) 59) (eqb (get_or text end 0) 10) (eqb (get_or text end 0) 35) is (cut_at.here inside)) piece so)
+    by_hash : (b : Bool) → eqb (get_or text end 0) 35 ≡ b → end < length text → MatchBool b (FirstStop text (end + 1) LineEnd stop) (stop ≡ end) → Going text (stop + 1) (done ++ commands)
+    by_hash true is inside line = after_comment text at end stop done commands cut_at.onward inside (eqb-true (get_or text end 0) 35 is) line piece so
+    by_hash false is inside same = subst (λ (i : ℕ). Going text (i + 1) (done ++ commands)) (sym same) (after_ender text at end done commands cut_at.onward inside (ender (eqb (get_or text end 0) 59) (eqb (get_or text end 0) 10) (eqb (get_or text end 0) 35) is (cut_at.here inside)) piece so)

@@ -8,6 +8,7 @@ use Rattle.stream.specs.Faults.{Faulty}
 use Rattle.stream.proofs.Rows.{nothing_after}
 use Rattle.stream.proofs.Standing.{longer}
 use Rattle.wording.specs.Texts.{text_of}
+use Rattle.notation.specs.Scanning.{Added, Commands}
 use Rattle.notation.specs.Showing.{spellings, texts, fault_text, Shown}
 
 pub record Sofar (bytes text : List ℕ) (at : ℕ) : Type 0 where
@@ -30,6 +31,11 @@ written_more was is done commands so more = more ∙ ap (λ l. l ++ spellings co
 
 spellings_push : (cs : List Command) (c : Command) → spellings (cs ++ (c ∷ [])) ≡ spellings cs ++ spelled c
 spellings_push cs c = spellings_++ cs (c ∷ []) ∙ ap (λ l. spellings cs ++ l) (nothing_after (spelled c))
+
+-- one more command, or none, after commands
+pub added : (was is : List ℕ) → Commands was → Added was is → Commands is
+added was is (cs, e) (inl same) = (cs, same ∙ e)
+added was is (cs, e) (inr (c, letter, numbers, means, more)) = (cs ++ (c ∷ []), more ∙ ap (λ l. l ++ spelled c) e ∙ sym (spellings_push cs c))
 
 texts_push : (cs : List Command) (c : Command) → texts (cs ++ (c ∷ [])) ≡ texts cs ++ text_of c
 texts_push [] c = nothing_after (text_of c)

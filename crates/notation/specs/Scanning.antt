@@ -1,6 +1,8 @@
 -- The parts of a readable text.
-use Rattle.std.specs.Prelude.{◌≡◌, ℕ, ◌<◌, ◌≤◌, Bool, true, false, not, ◌||◌, List, length, codes, ◌==◌, slice_index}
+use Rattle.std.specs.Prelude.{◌≡◌, ℕ, ◌<◌, ◌≤◌, Bool, true, false, not, ◌||◌, ◌⊎◌, List, ◌++◌, length, ℤ, codes, ◌==◌, slice_index}
 use Rattle.stream.specs.declared.Command.{Command}
+use Rattle.stream.specs.Spelling.{spelled}
+use Rattle.parsing.specs.Numbers.{Means}
 use Rattle.parsing.specs.declared.Wrong.{Wrong}
 use Rattle.parsing.specs.declared.Wrong.TheVariants.{NoCommand, NoNumber, TooFew, TooMany, DoesNotFit}
 use Rattle.notation.specs.declared.scanning.Stop.{Stop}
@@ -30,6 +32,10 @@ pub record FirstStop (text : List ℕ) (at : ℕ) (stop : Stop) (r : ℕ) : Type
   pub within : at ≤ length text → r ≤ length text
   pub before : (k : ℕ) → at ≤ k → k < r → stops_at stop (slice_index text k) ≡ false
   pub here : r < length text → stops_at stop (slice_index text r) ≡ true
+
+-- a piece of text adds nothing, or the command that its letter and its numbers mean
+abbrev pub Added : List ℕ → List ℕ → Type 0
+Added was is = (is ≡ was) ⊎ ((command : Command) × (letter : ℕ) × (numbers : List ℤ) × Means letter numbers command × (is ≡ was ++ spelled command))
 
 -- bytes that are one command after another
 abbrev pub Commands : List ℕ → Type 0

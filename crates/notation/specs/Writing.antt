@@ -46,8 +46,8 @@ pub data Writes : List ℕ → List Command → Type 0 where
   noted : (piece comment rest : List ℕ) (commands more : List Command) → Piece piece commands → ((k : ℕ) → k < length comment → slice_index comment k ≢ 10) → LineEnds rest → Writes rest more → Writes (piece ++ (35 ∷ (comment ++ rest))) (commands ++ more)
 
 -- a piece of text adds the command that it writes, if it writes one
-abbrev pub Added : List ℕ → List ℕ → List ℕ → Type 0
-Added piece was is = (commands : List Command) × Piece piece commands × (is ≡ was ++ spellings commands)
+abbrev pub AddedByPiece : List ℕ → List ℕ → List ℕ → Type 0
+AddedByPiece piece was is = (commands : List Command) × Piece piece commands × (is ≡ was ++ spellings commands)
 
 -- bytes that are the commands of a text, one after another
 abbrev pub StreamOf : List ℕ → List ℕ → Type 0

@@ -1,8 +1,8 @@
 //! From readable text to the bytes of a stream.
 
 ghost use Rattle.std.specs.Prelude.{◌≡◌, ◌+◌, ◌≤◌, length, drop, IfOk, MatchBool, OnOk, ◌==◌, slice_index};
-ghost use Rattle.notation.specs.Scanning.{Commands, FirstStop, in_words};
-ghost use Rattle.notation.specs.Writing.{Added, Numbers, StreamOf};
+ghost use Rattle.notation.specs.Scanning.{Added, Commands, FirstStop, in_words};
+ghost use Rattle.notation.specs.Writing.{AddedByPiece, Numbers, StreamOf};
 ghost use Rattle.notation.specs.declared.scanning.Stop.TheVariants.{LineEnd};
 
 use crate::scanning::{Stop, find_from, number};
@@ -74,7 +74,8 @@ fn numbers(heap: Global, piece: &[u8], from: usize) -> Result<Vec<i64>, Unread>
 
 /// Adds the command that a piece of text writes, if it writes one.
 fn add_piece(heap: Global, out: &mut Vec<u8>, piece: &[u8]) -> Result<(), Unread>
-    ensures { OnOk result (Added piece.now out.old.items out.new.items) }
+    ensures added { OnOk result (Added out.old.items out.new.items) }
+    ensures written { OnOk result (AddedByPiece piece.now out.old.items out.new.items) }
 {
     let start = find_from(piece, 0, Stop::Word);
     if start >= piece.len() {

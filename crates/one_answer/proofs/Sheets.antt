@@ -20,11 +20,11 @@ use Rattle.laws.proofs.Laws.{of_numbers, told_by_numbers}
 use Rattle.one_answer.proofs.Deciding.{First, implies, at_most, every, search_all}
 
 takes : (e : Entry) (q : ℕ) → Dec (Takes e q)
-takes e q = by-standing e.standing
+takes e q = by_standing e.standing
   where
-    by-standing : (standing : Bool) → Dec (MatchBool standing (Possible e.order q) (q ≡ 0))
-    by-standing true = dec_le q e.order.largest
-    by-standing false = ℕ_discrete q 0
+    by_standing : (standing : Bool) → Dec (MatchBool standing (Possible e.order q) (q ≡ 0))
+    by_standing true = dec_le q e.order.largest
+    by_standing false = ℕ_discrete q 0
 
 -- only finitely many quantities are possible, and their gains can be compared
 content : (r : ZonePrices) (o : Order) (q : ℕ) → Dec (Content r o q)

@@ -1,6 +1,6 @@
 -- The ranges of an order's price and quantity.
 use Rattle.std.specs.Prelude.{ℕ, ◌<◌, ◌≤◌}
-use Rattle.auction.specs.Bounds.{most_price, most_kwh}
+pub use Rattle.auction.specs.Bounds.{most_price, most_kwh, most_orders}
 
 pub record InRange (price quantity : ℕ) : Type 0 where
   pub price_in_range : price ≤ most_price

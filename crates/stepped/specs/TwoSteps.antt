@@ -136,10 +136,10 @@ steps_gain prices each zone price largest q =
     (worth_parts x y price (price / 2)) (paid_out prices each zone q ∙ ap neg_ℤ (paid_parts q x y p (parts q (largest / 2)))) (less_paid x (scaled price) p) (less_paid y (scaled (price / 2)) p)
 
 pub lower_step : (price : ℕ) (p : ℤ) → (scaled (price / 2) -ℤ p) ≤ℤ (scaled price -ℤ p)
-lower_step price p = let h : 1000 * (price / 2) ≤ 1000 * price = omega arith in moved (scaled (price / 2)) (scaled price) p (less-scaled (1000 * (price / 2)) (1000 * price) h)
+lower_step price p = let h : 1000 * (price / 2) ≤ 1000 * price = omega arith in moved (scaled (price / 2)) (scaled price) p (less_scaled (1000 * (price / 2)) (1000 * price) h)
   where
-    less-scaled : (m n : ℕ) → m ≤ n → pos m ≤ℤ pos n
-    less-scaled m n h = omega (arith, ints)
+    less_scaled : (m n : ℕ) → m ≤ n → pos m ≤ℤ pos n
+    less_scaled m n h = omega (arith, ints)
 
     moved : (a b p : ℤ) → a ≤ℤ b → (a -ℤ p) ≤ℤ (b -ℤ p)
     moved a b p h = omega (arith, ints)

@@ -37,17 +37,17 @@ pub filled_so : {P Q R : Type 0} (k : Kinds P Q R) (g : Grid) (house : House) (f
     → Handled k g house (Fill (house_number house) f) (situation_of x y z s p) (Ok Done) (situation_of x y z s' p)
 filled_so k g house f x y z s s' p there fits filled = record {
   answered = inl (there, inl (fits, refl));
-  next = λ i. record { closed = p.closed; book = x ∷ y ∷ z ∷ []; dispatch = dispatch-path i; prices = prices-path i; tries = p.tries; settled_hours = p.settled; account = (situation_of x y z s p).account; rent_account = p.rent };
+  next = λ i. record { closed = p.closed; book = x ∷ y ∷ z ∷ []; dispatch = dispatch_path i; prices = prices_path i; tries = p.tries; settled_hours = p.settled; account = (situation_of x y z s p).account; rent_account = p.rent };
 }
   where
     by : House → Option Filling
     by other = cond (eqb (house_number house) (house_number other)) (Some f) None
 
-    dispatch-path : dispatches s' ≡ (λ other l n. set_quantity (by other) l n (dispatches s other l n))
-    dispatch-path = fun_ext (λ other. fun_ext (λ l. fun_ext (λ n. (filled other).quantities l n ∙ ap (λ o. set_quantity o l n (dispatches s other l n)) (filling_is house f other))))
+    dispatch_path : dispatches s' ≡ (λ other l n. set_quantity (by other) l n (dispatches s other l n))
+    dispatch_path = fun_ext (λ other. fun_ext (λ l. fun_ext (λ n. (filled other).quantities l n ∙ ap (λ o. set_quantity o l n (dispatches s other l n)) (filling_is house f other))))
 
-    prices-path : prices_by s' ≡ (λ other. record { lambda = set_lambda (by other) (prices_by s other).lambda; shadow = λ l. set_shadow (by other) l ((prices_by s other).shadow l) })
-    prices-path = fun_ext (λ other. same_prices ((filled other).lambda ∙ ap (λ o. set_lambda o (prices_by s other).lambda) (filling_is house f other)) (λ l. (filled other).shadows l ∙ ap (λ o. set_shadow o l ((prices_by s other).shadow l)) (filling_is house f other)))
+    prices_path : prices_by s' ≡ (λ other. record { lambda = set_lambda (by other) (prices_by s other).lambda; shadow = λ l. set_shadow (by other) l ((prices_by s other).shadow l) })
+    prices_path = fun_ext (λ other. same_prices ((filled other).lambda ∙ ap (λ o. set_lambda o (prices_by s other).lambda) (filling_is house f other)) (λ l. (filled other).shadows l ∙ ap (λ o. set_shadow o l ((prices_by s other).shadow l)) (filling_is house f other)))
 
 -- what is filled in for an order or a line that is there has a place in the sheet
 pub place_of : (g : Grid) (x y z : List Entry) (f : Filling) → length x ≤ most_orders → length y ≤ most_orders → length z ≤ most_orders → line_count g ≤ most_lines → Fillable g (x ∷ y ∷ z ∷ []) f → HasPlace f

@@ -12,8 +12,8 @@ use Rattle.hours.proofs.Transcribing.{none_heard, one_more, all_heard}
 use Rattle.hours.proofs.hearing.hear_hours.Goals as goal
 
 -- a fault is written as it is told
-fault-line : (text text' : List ℕ) (fault : _) (f : _) → fault ≡ fault_told f → text' ≡ text ++ refused_text fault → text' ≡ text ++ refused_text (fault_told f)
-fault-line text text' fault f is says = says ∙ ap (λ x. text ++ refused_text x) is
+fault_line : (text text' : List ℕ) (fault : _) (f : _) → fault ≡ fault_told f → text' ≡ text ++ refused_text fault → text' ≡ text ++ refused_text (fault_told f)
+fault_line text text' fault f is says = says ∙ ap (λ x. text ++ refused_text x) is
 
 pub commands-init : goal.commands-init
 commands-init g c = (refl, refl, none_heard (kinds_of g.X.OrderList g.Y.OrderList g.W.OrderList) (g.N.Network.grid c.open-clearing.result.network) c.args.reader.now.bytes.now c.args.reader.now.at (string_bytes c.args.lines.now) (situation g.X.OrderList g.Y.OrderList g.W.OrderList c.open-clearing.result) c.open-clearing.ensures.history)
@@ -26,7 +26,7 @@ returns-in-Err g c =
     let whole : (text' : List ℕ) → text' ≡ string_bytes c.commands.lines ++ refused_text c.in-Err.fault → HoursAnswered k (g.N.Network.grid c.args.network) bytes c.args.reader.now.at (string_bytes c.args.lines.now) text'
     = λ text' says. subst (λ n. HoursAnswered k (g.N.Network.grid n) bytes c.args.reader.now.at (string_bytes c.args.lines.now) text') c.open-clearing.ensures.network
     (all_heard k (g.N.Network.grid c.open-clearing.result.network) bytes c.args.reader.now.at (string_bytes c.args.lines.now) c.commands.reader.at (string_bytes c.commands.lines) (situation g.X.OrderList g.Y.OrderList g.W.OrderList c.commands.clearing) text' c.commands.invariant.2
-    (inr (found.0, found.1, fault-line (string_bytes c.commands.lines) text' c.in-Err.fault found.0 found.2 says))) in
+    (inr (found.0, found.1, fault_line (string_bytes c.commands.lines) text' c.in-Err.fault found.0 found.2 says))) in
     IfOk-weaker c.say_fault.result (λ _. string_bytes c.say_fault.new.lines ≡ string_bytes c.commands.lines ++ refused_text c.in-Err.fault) (λ _. HoursAnswered k (g.N.Network.grid c.args.network) bytes c.args.reader.now.at (string_bytes c.args.lines.now) (string_bytes c.say_fault.new.lines)) (λ _ says. whole (string_bytes c.say_fault.new.lines) says) c.say_fault.ensures
 
 pub returns-in-Ok-None : goal.returns-in-Ok-None

@@ -1,4 +1,4 @@
-use Rattle.std.proofs.Common.{◌≡◌, ◌+◌, List, [], ◌∷◌, ◌++◌, get_or, vec_items, sym, ap, ◌∙◌, arith, rules}
+use Rattle.std.proofs.Common.{◌≡◌, ◌+◌, List, [], ◌∷◌, ◌++◌, get_or, vec_items, sym, refl, ap, inl, inr, ◌∙◌, arith, rules}
 use Rattle.std.proofs.lemmas.List.{append-nil}
 use Rattle.stream.specs.Spelling.{spelled}
 use Rattle.parsing.specs.Numbers.{Means}
@@ -7,7 +7,10 @@ use Rattle.notation.proofs.reading.add_piece.Goals as goal
 
 pub returns-then-start-piece : goal.returns-then-start-piece
 returns-then-start-piece c =
-    ([], blank_piece c.args.piece.now c.find_from-start.result c.find_from-start.ensures c.if-start-piece.true, sym (append-nil (vec_items c.args.out.now)))
+    record {
+      added = inl refl;
+      written = ([], blank_piece c.args.piece.now c.find_from-start.result c.find_from-start.ensures c.if-start-piece.true, sym (append-nil (vec_items c.args.out.now)));
+    }
 
 pub returns : goal.returns
 returns c =
@@ -18,8 +21,12 @@ returns c =
     let numbers : List _ = vec_items c.in_ok-operands.operands in
     let one : end ≡ start + 1 = omega arith in
     let means : Means (get_or piece start 0) numbers meant = search rules in
-    let longer : vec_items c.extend_from_slice.new.self ≡ vec_items c.args.out.now ++ spelled meant = search rules in (
-      meant ∷ [],
-      one_piece piece start end numbers meant c.find_from-start.ensures (omega arith) c.find_from-end.ensures one c.in_ok-operands.ensures means,
-      longer ∙ ap (λ l. vec_items c.args.out.now ++ l) (sym (append-nil (spelled meant))),
-    )
+    let longer : vec_items c.extend_from_slice.new.self ≡ vec_items c.args.out.now ++ spelled meant = search rules in
+    record {
+      added = inr (meant, get_or piece start 0, numbers, means, longer);
+      written = (
+        meant ∷ [],
+        one_piece piece start end numbers meant c.find_from-start.ensures (omega arith) c.find_from-end.ensures one c.in_ok-operands.ensures means,
+        longer ∙ ap (λ l. vec_items c.args.out.now ++ l) (sym (append-nil (spelled meant))),
+      );
+    }

@@ -6,7 +6,7 @@ use Rattle.notation.proofs.reading.to_bytes.Goals as goal
 pub pieces-preserved : goal.pieces-preserved
 pieces-preserved c =
     let done = c.pieces.invariant.0 in
-    let added = c.in-Ok.ensures in (
+    let added = c.in-Ok.ensures.written in (
       done ++ added.0,
       one_more_piece c.args.text.now c.pieces.at c.find_from-end.result c.after_comment-stop.result done added.0 c.pieces-test.true c.find_from-end.ensures c.after_comment-stop.ensures.ends added.1 c.pieces.invariant.1,
       written_more (vec_items c.pieces.bytes) (vec_items c.add_piece.new.out) done added.0 c.pieces.invariant.2 added.2,
