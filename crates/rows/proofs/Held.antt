@@ -1,6 +1,6 @@
 -- Rows that are entered, withdrawn and read.
-use Rattle.std.proofs.Common.{◌≡◌, ℕ, zero, suc, ◌+◌, ◌<◌, ◌≤◌, true, false, cond, List, [], ◌∷◌, ◌++◌, length, get_or, take, set, Some, None, sym, refl, ap, subst, ⊎_elim, arith, get_or-set_other, get_or-set_same, below_more}
-use Rattle.std.proofs.lemmas.List.{length-take, get_or-take}
+use Rattle.std.proofs.Common.{◌≡◌, ℕ, zero, suc, ◌+◌, ◌-◌, ◌<◌, ◌≤◌, true, false, cond, List, [], ◌∷◌, ◌++◌, length, get_or, take, set, Some, None, sym, refl, ap, subst, ⊎_elim, arith, get_or-set_other, get_or-set_same, below_more}
+use Rattle.std.proofs.lemmas.List.{length-take, get_or-take, take_more_set}
 use Rattle.std.proofs.lemmas.Bool.{cases_eq}
 use Rattle.rows.specs.declared.row.Row.{Row}
 use Rattle.rows.specs.declared.table.Rows.{Rows}
@@ -62,6 +62,28 @@ kwh_left c rs n d h k t =
     let same = ap rows_kwh (without_set c rs n d h) in
     let rest = kwh_without c rs n d h k in
     let here = counted (get_or rs n d) t in
+    omega arith
+
+-- two rows that count as much, put in the same place
+kwh_set : (c : ℕ) (rs : List Row) (n : ℕ) (x y : Row) → row_kwh x ≡ row_kwh y → rows_kwh (take c (set rs n x)) ≡ rows_kwh (take c (set rs n y))
+kwh_set zero rs n x y h = refl
+kwh_set (suc c) [] n x y h = refl
+kwh_set (suc c) (r ∷ rs) zero x y h = ap (λ k. k + rows_kwh (take c rs)) h
+kwh_set (suc c) (r ∷ rs) (suc n) x y h = ap (λ k. row_kwh r + k) (kwh_set c rs n x y h)
+
+-- the kWh that are kept, where any row that does not stand takes the place of one that stood
+pub kwh_fallen : (standing c : ℕ) (rs : List Row) (n : ℕ) (x : Row) → standing ≡ rows_kwh (take c rs) → n < c → n < length rs → (get_or rs n no_row).standing ≡ true → x.standing ≡ false → standing - (get_or rs n no_row).quantity ≡ rows_kwh (take c (set rs n x))
+kwh_fallen standing c rs n x summed h k stood fallen =
+    let left = kwh_left c rs n no_row h k stood in
+    let same = kwh_set c rs n x (withdrawn (get_or rs n no_row)) (ap (λ b. cond b x.quantity 0) fallen) in
+    omega arith
+
+-- the kWh that are kept, where any row that stands is put behind the others
+pub kwh_stored : (standing c : ℕ) (rs : List Row) (x : Row) → standing ≡ rows_kwh (take c rs) → c < length rs → x.standing ≡ true → standing + x.quantity ≡ rows_kwh (take (c + 1) (set rs c x))
+kwh_stored standing c rs x summed there stands =
+    let longer = ap rows_kwh (take_more_set rs c x there) in
+    let more = kwh_push (take c rs) x in
+    let here = counted x stands in
     omega arith
 
 -- ---- what holds of each row in use
