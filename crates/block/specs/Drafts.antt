@@ -1,5 +1,5 @@
 -- The base of a network while the block gives it.
-use Rattle.std.specs.Prelude.{◌≡◌, ℕ, ◌-◌, ◌<◌, true, false, List, [], ◌∷◌, ◌++◌, length, ℤ, Ok, Err, Result}
+use Rattle.std.specs.Prelude.{◌≡◌, ℕ, ◌-◌, ◌<◌, true, false, List, [], ◌∷◌, ◌++◌, length, ℤ, Ok, Err, OnErr, Result}
 use Rattle.auction.specs.declared.Fault.{Fault}
 use Rattle.auction.specs.declared.Fault.TheVariants.{Missing}
 use Rattle.auction.specs.declared.Refusal.{Refusal}
@@ -40,24 +40,25 @@ phase_of (Growing tree zones) = links_to_come (zones - zone_count (links_of tree
 phase_of (Tabled table) = Rows
 
 -- a link goes to a tree; where there is none, there is nothing to join
-abbrev pub LinkedOn : Draft → ℕ → ℕ → ℕ → Result Draft Fault → Type 0
-LinkedOn Nothing parent up down r = r ≡ Err Missing
-LinkedOn (Growing tree zones) parent up down r = Answered r (NextExists (links_of tree) parent) (LimitsInRange up down) Always (λ after. IsTree after (links_of tree ++ link_with parent up down ∷ []) zones) Always
-LinkedOn (Tabled table) parent up down r = r ≡ Err Missing
+abbrev pub LinkedOn : Draft → ℕ → ℕ → ℕ → Result (Unit {0}) Fault → Draft → Type 0
+LinkedOn Nothing parent up down r after = (r ≡ Err Missing) × (after ≡ Nothing)
+LinkedOn (Growing tree zones) parent up down r after = Answered r (NextExists (links_of tree) parent) (LimitsInRange up down) Always (λ _. IsTree after (links_of tree ++ link_with parent up down ∷ []) zones) (after ≡ Growing tree zones)
+LinkedOn (Tabled table) parent up down r after = (r ≡ Err Missing) × (after ≡ Tabled table)
 
 -- a row goes to a table
-abbrev pub RowedOn : Draft → ℕ → List ℤ → Result Draft Fault → Type 0
-RowedOn Nothing limit row r = r ≡ Err Missing
-RowedOn (Growing tree zones) limit row r = r ≡ Err Missing
-RowedOn (Tabled table) limit row r = Answered r (OfZones (table_grid table).zones row) (NumbersInRange limit row) (length (table_grid table).lines < most_lines) (λ after. IsTable after (table_grid table).zones ((table_grid table).lines ++ line_of limit row ∷ [])) Always
+abbrev pub RowedOn : Draft → ℕ → List ℤ → Result (Unit {0}) Fault → Draft → Type 0
+RowedOn Nothing limit row r after = (r ≡ Err Missing) × (after ≡ Nothing)
+RowedOn (Growing tree zones) limit row r after = (r ≡ Err Missing) × (after ≡ Growing tree zones)
+RowedOn (Tabled table) limit row r after = Answered r (OfZones (table_grid table).zones row) (NumbersInRange limit row) (length (table_grid table).lines < most_lines) (λ _. IsTable after (table_grid table).zones ((table_grid table).lines ++ line_of limit row ∷ [])) (after ≡ Tabled table)
 
--- The answer to a command of the base: a stranger's is refused first, then one that is not allowed now; each of the four is answered by the tree or the table. An accepted command leads to the phase that follows.
-pub record Grown (d : Draft) (c : Command) (r : Result Draft Refusal) : Type 0 where
+-- The answer to a command of the base, and the base after it: a stranger's is refused first, then one that is not allowed now; each of the four is answered by the tree or the table. An accepted command leads to the phase that follows, and a refused one leaves the base as it was.
+pub record Grown (d : Draft) (c : Command) (r : Result (Unit {0}) Refusal) (after : Draft) : Type 0 where
   pub stranger : Strange (house_of c) → r ≡ Err Stranger
   pub not_now : (Strange (house_of c) → ⊥) → allowed (phase_of d) c ≡ false → r ≡ Err NotNow
-  pub planted : (zones : ℕ) → c ≡ Word.Tree zones → allowed (phase_of d) c ≡ true → Tells r (λ f. Answered f (ZonesExist zones) Always Always (λ after. IsTree after [] zones) Always)
-  pub laid_out : (zones : ℕ) → c ≡ Word.Table zones → allowed (phase_of d) c ≡ true → Tells r (λ f. Answered f (ZonesExist zones) Always Always (λ after. IsTable after zones []) Always)
-  pub linked : (parent up down : ℕ) → c ≡ Word.Link parent up down → allowed (phase_of d) c ≡ true → Tells r (LinkedOn d parent up down)
-  pub rowed : (limit : ℕ) (row : List ℤ) → c ≡ Word.Row limit row → allowed (phase_of d) c ≡ true → Tells r (RowedOn d limit row)
+  pub planted : (zones : ℕ) → c ≡ Word.Tree zones → allowed (phase_of d) c ≡ true → Tells r (λ f. Answered f (ZonesExist zones) Always Always (λ _. IsTree after [] zones) Always)
+  pub laid_out : (zones : ℕ) → c ≡ Word.Table zones → allowed (phase_of d) c ≡ true → Tells r (λ f. Answered f (ZonesExist zones) Always Always (λ _. IsTable after zones []) Always)
+  pub linked : (parent up down : ℕ) → c ≡ Word.Link parent up down → allowed (phase_of d) c ≡ true → Tells r (λ f. LinkedOn d parent up down f after)
+  pub rowed : (limit : ℕ) (row : List ℤ) → c ≡ Word.Row limit row → allowed (phase_of d) c ≡ true → Tells r (λ f. RowedOn d limit row f after)
   pub not_the_base's : for_layers c ≡ true → allowed (phase_of d) c ≡ true → r ≡ Err NotNow
-  pub follows : (after : Draft) → r ≡ Ok after → phase_of after ≡ next_phase (phase_of d) c
+  pub follows : r ≡ Ok tt → phase_of after ≡ next_phase (phase_of d) c
+  pub refused : OnErr r (after ≡ d)

@@ -1,10 +1,7 @@
 //! The layers that the block lays over the base of a network.
 
-ghost use Rattle.std.specs.Prelude.{◌≡◌, [], replicate};
-ghost use Rattle.auction.specs.Bounds.{most_lines};
-ghost use Rattle.network.specs.Rows.{lines_of};
-ghost use Rattle.block.specs.Layerings.{Laid, opened, stage_phase};
-ghost use Rattle.block.specs.declared.layered.Stage.TheVariants.{Bare};
+ghost use Rattle.std.specs.Prelude.{◌≡◌};
+ghost use Rattle.block.specs.Layerings.{BareOver, Lays, opened, stage_phase};
 
 use crate::phases::{Phase, allow};
 use auction::Refusal;
@@ -13,7 +10,7 @@ use network::Network;
 use stream::Command;
 
 /// Which layer was given last.
-#[derive(Clone, Copy)]
+#[derive(Clone, Copy, PartialEq, Eq, Debug)]
 pub enum Stage {
     Bare,
     Watched,
@@ -21,11 +18,11 @@ pub enum Stage {
     Open,
 }
 
-impl Stage {
-    fn phase(self) -> Phase
-        ensures { result ≡ stage_phase self }
-    {
-        match self {
+impl From<Stage> for Phase {
+    ghost from_gives = { λ stage phase. phase ≡ stage_phase stage };
+
+    fn from(stage: Stage) -> Phase {
+        match stage {
             Stage::Bare => Phase::Linked,
             Stage::Watched => Phase::Monitored,
             Stage::Held => Phase::HeldBack,
@@ -44,10 +41,7 @@ pub struct Layered<N> {
 impl<N: Network> Layered<N> {
     /// Both layers, with nothing in them yet.
     pub fn over(base: N) -> Layered<N>
-        ensures bare { result.stage ≡ Bare }
-        ensures base { result.network.below.below ≡ base }
-        ensures unwatched { lines_of result.network.below.watched.count result.network.below.watched.rows ≡ [] }
-        ensures unheld { result.network.amounts.kwh ≡ replicate most_lines 0 }
+        ensures { BareOver base result }
     {
         Layered {
             stage: Stage::Bare,
@@ -74,18 +68,14 @@ impl<N: Network> Layered<N> {
     pub fn is_open(&self) -> bool
         ensures { result ≡ opened self.now.stage }
     {
-        match self.stage {
-            Stage::Open => true,
-            _ => false,
-        }
+        self.stage == Stage::Open
     }
 
     /// One more command of the block.
     pub fn lay(&mut self, command: &Command) -> Result<(), Refusal>
-        ensures base { self.new.network.below.below ≡ self.old.network.below.below }
-        ensures laid { Laid (N.Network.grid self.old.network.below.below) command.now result self.old.stage (lines_of self.old.network.below.watched.count self.old.network.below.watched.rows) self.old.network.amounts.kwh self.new.stage (lines_of self.new.network.below.watched.count self.new.network.below.watched.rows) self.new.network.amounts.kwh }
+        ensures { Lays N.Network.grid self.old command.now result self.new }
     {
-        let _next = allow(self.stage.phase(), command)?;
+        allow(self.stage.into(), command)?;
         match *command {
             Command::Monitor {
                 limit,

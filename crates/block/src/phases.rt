@@ -8,7 +8,7 @@ use auction::{House, Refusal};
 use stream::Command;
 
 /// How far the network block has come.
-#[derive(Clone, Copy)]
+#[derive(Clone, Copy, PartialEq, Eq, Debug)]
 pub enum Phase {
     /// Nothing was given yet.
     Start,
@@ -30,10 +30,10 @@ pub enum Phase {
 pub(crate) fn to_come(missing: u8) -> Phase
     ensures { result ≡ links_to_come missing }
 {
-    if missing == 0 {
-        return Phase::Linked;
+    match missing {
+        0 => Phase::Linked,
+        _ => Phase::Links { missing },
     }
-    Phase::Links { missing }
 }
 
 /// Where the block stands after a command, if it allows the command now.
@@ -62,10 +62,7 @@ fn advance(phase: Phase, command: &Command) -> Result<Phase, Refusal>
 pub(crate) fn is_allowed(phase: Phase, command: &Command) -> bool
     ensures { result ≡ allowed phase command.now }
 {
-    match advance(phase, command) {
-        Ok(_) => true,
-        Err(_) => false,
-    }
+    advance(phase, command).is_ok()
 }
 
 /// Where the block stands after a command, if its house is one of the two and the block allows it now.
@@ -73,7 +70,7 @@ pub fn allow(phase: Phase, command: &Command) -> Result<Phase, Refusal>
     ensures { AllowedNext phase command.now result }
 {
     if let Some(number) = command.house() {
-        let _house = House::numbered(number)?;
+        House::numbered(number)?;
     }
     advance(phase, command)
 }
