@@ -6,7 +6,7 @@ ghost use Rattle.answers.specs.Courses.{block_line, BlockEnded};
 
 use auction::Refusal;
 use block::Draft;
-use ground::{Ground, take};
+use ground::Ground;
 use reading::{Placed, next_command};
 use report::{refused_at, refused_line, taken_line};
 use std::alloc::{AllocError, Global};
@@ -47,8 +47,7 @@ pub(crate) fn read_block(
             }
             Ok(None) => return Ok(footing),
             Ok(Some(placed)) => {
-                let (after, answer) = take(footing, &placed.command);
-                footing = after;
+                let answer = footing.take(&placed.command);
                 let said = line(heap, &placed, answer)?;
                 lines.push_str(said.as_str())?;
             }

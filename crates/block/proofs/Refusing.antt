@@ -1,5 +1,5 @@
 -- A table that refused a row is the table that it was.
-use Rattle.std.proofs.Common.{◌≡◌, ℕ, ◌≤◌, refl, ap, ◌∙◌, subst}
+use Rattle.std.proofs.Common.{◌≡◌, ℕ, ◌≤◌, ap, ◌∙◌, subst}
 use Rattle.std.proofs.Math.Bridge.{le_prop}
 use Rattle.auction.specs.Bounds.{most_zones, most_lines}
 use Rattle.network.specs.declared.list.RowList.{RowList}

@@ -1,8 +1,7 @@
 -- What one command of the network block makes of the network as far as it was given.
-use Rattle.std.specs.Prelude.{◌≡◌, Bool, false, ◌&&◌, [], replicate, Ok, Err, MatchBool, Result}
+use Rattle.std.specs.Prelude.{◌≡◌, Bool, false, ◌&&◌, Ok, Err, MatchBool, Result}
 use Rattle.auction.specs.declared.Refusal.{Refusal}
 use Rattle.auction.specs.declared.Refusal.TheVariants.{NotNow}
-use Rattle.auction.specs.Bounds.{most_lines}
 use Rattle.auction.specs.Grids.{Grid}
 use Rattle.network.specs.Rows.{lines_of}
 use Rattle.tree.specs.declared.grown.Tree.{Tree}
@@ -17,10 +16,9 @@ use Rattle.stream.specs.declared.commands.Command.{Command}
 use Rattle.block.specs.declared.draft.Draft.{Draft}
 use Rattle.block.specs.declared.draft.Draft.TheVariants.{Nothing, Growing, Tabled}
 use Rattle.block.specs.declared.layered.Layered.{Layered}
-use Rattle.block.specs.declared.layered.Stage.TheVariants.{Bare}
 use Rattle.block.specs.Phases.{allowed, for_layers}
 use Rattle.block.specs.Drafts.{Grown, phase_of}
-use Rattle.block.specs.Layerings.{Laid, opened}
+use Rattle.block.specs.Layerings.{BareOver, Lays, opened}
 use Rattle.ground.specs.declared.Ground.{Ground}
 use Rattle.ground.specs.declared.Ground.TheVariants.{Base, OverTree, OverTable}
 
@@ -44,16 +42,9 @@ layered_grid base layered = network_grid base layered.network
 abbrev pub grid_of_tree : Tree → Grid
 grid_of_tree tree = tree_grid (links_of tree)
 
--- the layers after a command, as the block's rules have it, over the same base
-abbrev pub Lays : {N : Type 0} → (N → Grid) → Layered N → Command → BlockAnswer → Layered N → Type 0
-Lays base l c r l' = (l'.network.below.below ≡ l.network.below.below) × Laid (base l.network.below.below) c r l.stage (lines_of l.network.below.watched.count l.network.below.watched.rows) l.network.amounts.kwh l'.stage (lines_of l'.network.below.watched.count l'.network.below.watched.rows) l'.network.amounts.kwh
-
--- both layers over a base, with nothing in them
-pub record BareOver {N : Type 0} (base : N) (l : Layered N) : Type 0 where
-  pub bare : l.stage ≡ Bare
-  pub over : l.network.below.below ≡ base
-  pub unwatched : lines_of l.network.below.watched.count l.network.below.watched.rows ≡ []
-  pub unheld : l.network.amounts.kwh ≡ replicate most_lines 0
+-- the layers that the first command of them leaves over a base
+abbrev pub BegunOver : {N : Type 0} → (N → Grid) → N → Command → BlockAnswer → Layered N → Type 0
+BegunOver {N} grid base c r after = (bare : Layered N) × BareOver base bare × Lays grid bare c r after
 
 -- one of two, by the answer
 abbrev pub by_answer : BlockAnswer → Ground → Ground → Ground
@@ -63,20 +54,12 @@ by_answer (Err _) taken refused = refused
 -- the first command of the layers over a base; where it is refused, the base may still grow
 abbrev pub Begins : Draft → Command → BlockAnswer → Ground → Type 0
 Begins Nothing c r after = (r ≡ Err NotNow) × (after ≡ Base Nothing)
-Begins (Growing tree zones) c r after = (l : Layered Tree) × (l' : Layered Tree) × BareOver tree l × Lays grid_of_tree l c r l' × (after ≡ by_answer r (OverTree l') (Base (Growing tree zones)))
-Begins (Tabled table) c r after = (l : Layered Table) × (l' : Layered Table) × BareOver table l × Lays table_grid l c r l' × (after ≡ by_answer r (OverTable l') (Base (Tabled table)))
-
-abbrev pub draft_answer : Result Draft Refusal → BlockAnswer
-draft_answer (Ok _) = Ok tt
-draft_answer (Err refusal) = Err refusal
-
-abbrev pub draft_after : Draft → Result Draft Refusal → Draft
-draft_after before (Ok draft) = draft
-draft_after before (Err _) = before
+Begins (Growing tree zones) c r after = (l : Layered Tree) × BegunOver grid_of_tree tree c r l × (after ≡ by_answer r (OverTree l) (Base (Growing tree zones)))
+Begins (Tabled table) c r after = (l : Layered Table) × BegunOver table_grid table c r l × (after ≡ by_answer r (OverTable l) (Base (Tabled table)))
 
 -- a command of the base; a refused one leaves it as it was
 abbrev pub Grows : Draft → Command → BlockAnswer → Ground → Type 0
-Grows draft c r after = (grown : Result Draft Refusal) × Grown draft c grown × (r ≡ draft_answer grown) × (after ≡ Base (draft_after draft grown))
+Grows draft c r after = (grown : Draft) × Grown draft c r grown × (after ≡ Base grown)
 
 -- a command while the base may still grow
 abbrev pub TakesOnBase : Draft → Command → BlockAnswer → Ground → Type 0

@@ -1,8 +1,9 @@
 //! The network block as far as it was read: a tree or a table that grows, then the layers over it.
 #![tactic(auto)]
 
-ghost use Rattle.std.specs.Prelude.{◌≡◌};
-ghost use Rattle.ground.specs.Grounds.{opened_ground, Begins, TakesOnBase, Takes};
+ghost use Rattle.std.specs.Prelude.{◌≡◌, Ok, Err, MatchResult};
+ghost use Rattle.ground.specs.Grounds.{opened_ground, BegunOver, Begins, Takes};
+ghost use Rattle.ground.specs.declared.Ground.TheVariants.{Base};
 
 use auction::Refusal;
 use block::{Draft, Layered};
@@ -30,57 +31,45 @@ impl Ground {
             Ground::OverTable { layered } => layered.is_open(),
         }
     }
-}
 
-/// One more command of the block.
-pub fn take(footing: Ground, command: &Command) -> (Ground, Result<(), Refusal>)
-    ensures { Takes footing command.now result.1 result.0 }
-{
-    match footing {
-        Ground::Base { draft } => take_on_base(draft, command),
-        Ground::OverTree { mut layered } => {
-            let answer = layered.lay(command);
-            (Ground::OverTree { layered }, answer)
+    /// One more command of the block; a refused one leaves everything as it was.
+    pub fn take(&mut self, command: &Command) -> Result<(), Refusal>
+        ensures { Takes self.old command.now result self.new }
+    {
+        match self {
+            Ground::Base { draft } => {
+                if !draft.ends_with(command) {
+                    return draft.grow(command);
+                }
+                *self = begin_layers(*draft, command)?;
+                Ok(())
+            }
+            Ground::OverTree { layered } => layered.lay(command),
+            Ground::OverTable { layered } => layered.lay(command),
         }
-        Ground::OverTable { mut layered } => {
-            let answer = layered.lay(command);
-            (Ground::OverTable { layered }, answer)
-        }
     }
 }
 
-/// A command while the base may still grow: one of the layers, where it is allowed and taken, ends the base.
-fn take_on_base(draft: Draft, command: &Command) -> (Ground, Result<(), Refusal>)
-    ensures { TakesOnBase draft command.now result.1 result.0 }
+/// The layers over a base, begun with their first command.
+fn layers_over<N: Network + Drop>(base: N, command: &Command) -> Result<Layered<N>, Refusal>
+    ensures { MatchResult result (λ layered. BegunOver N.Network.grid base command.now (Ok tt) layered) (λ refusal. (layered : Layered N) × BegunOver N.Network.grid base command.now (Err refusal) layered) }
 {
-    if draft.ends_with(command) {
-        return begin_layers(draft, command);
-    }
-    match draft.grow(command) {
-        Ok(draft) => (Ground::Base { draft }, Ok(())),
-        Err(refusal) => (Ground::Base { draft }, Err(refusal)),
-    }
+    let mut layered = Layered::over(base);
+    layered.lay(command)?;
+    Ok(layered)
 }
 
-/// The first command of the layers; a refused one leaves the base as it was.
-fn begin_layers(draft: Draft, command: &Command) -> (Ground, Result<(), Refusal>)
-    ensures { Begins draft command.now result.1 result.0 }
+/// The base ends with the first command of the layers, where it is accepted.
+fn begin_layers(draft: Draft, command: &Command) -> Result<Ground, Refusal>
+    ensures { MatchResult result (λ after. Begins draft command.now (Ok tt) after) (λ refusal. Begins draft command.now (Err refusal) (Base draft)) }
 {
     match draft {
-        Draft::Nothing => (Ground::Base { draft }, Err(Refusal::NotNow)),
-        Draft::Growing { tree, .. } => {
-            let mut layered = Layered::over(tree);
-            match layered.lay(command) {
-                Ok(()) => (Ground::OverTree { layered }, Ok(())),
-                Err(refusal) => (Ground::Base { draft }, Err(refusal)),
-            }
-        }
-        Draft::Tabled { table } => {
-            let mut layered = Layered::over(table);
-            match layered.lay(command) {
-                Ok(()) => (Ground::OverTable { layered }, Ok(())),
-                Err(refusal) => (Ground::Base { draft }, Err(refusal)),
-            }
-        }
+        Draft::Nothing => Err(Refusal::NotNow),
+        Draft::Growing { tree, .. } => Ok(Ground::OverTree {
+            layered: layers_over(tree, command)?,
+        }),
+        Draft::Tabled { table } => Ok(Ground::OverTable {
+            layered: layers_over(table, command)?,
+        }),
     }
 }

@@ -14,8 +14,8 @@ commands-preserved c =
     let kept : c.next_command.new.reader.bytes.now ≡ c.commands.reader.bytes.now = search rules in
     let found : Found bytes c.commands.reader.at (Ok (Some placed)) c.next_command.new.reader.at = subst (λ b. Found b c.commands.reader.at (Ok (Some placed)) c.next_command.new.reader.at) c.commands.invariant.0 there in
     let shut : opened_ground c.commands.footing ≡ false = search rules in
-    let says : string_bytes c.push_str-in-Ok-Some.new.self ≡ string_bytes c.commands.lines ++ block_line placed.offset (letter_of placed.command) c.take-after.result.1 = search rules in (
+    let says : string_bytes c.push_str-in-Ok-Some.new.self ≡ string_bytes c.commands.lines ++ block_line placed.offset (letter_of placed.command) c.take-answer.result = search rules in (
       kept ∙ c.commands.invariant.0,
-      one_given bytes c.commands.reader.at (string_bytes c.commands.lines) c.commands.footing c.next_command.new.reader.at (string_bytes c.push_str-in-Ok-Some.new.self) c.take-after.result.0 placed.offset placed.command c.take-after.result.1
-          c.commands.invariant.1 shut found.0 found.1 found.2 found.3 c.take-after.ensures says,
+      one_given bytes c.commands.reader.at (string_bytes c.commands.lines) c.commands.footing c.next_command.new.reader.at (string_bytes c.push_str-in-Ok-Some.new.self) c.take-answer.new.self placed.offset placed.command c.take-answer.result
+          c.commands.invariant.1 shut found.0 found.1 found.2 found.3 c.take-answer.ensures says,
     )
