@@ -32,7 +32,7 @@ impl Draft {
         match self {
             Draft::Nothing => Phase::Start,
             Draft::Growing { tree, zones } => {
-                to_come((*zones as usize).saturating_sub(tree.zones()) as u8)
+                to_come(usize::from(*zones).saturating_sub(tree.zones()) as u8)
             }
             Draft::Tabled { .. } => Phase::Rows,
         }
@@ -52,7 +52,7 @@ impl Draft {
     fn plant(&mut self, zones: u8) -> Result<(), Fault>
         ensures { Answered result (ZonesExist zones) Always Always (λ _. IsTree self.new [] zones) (self.new ≡ self.old) }
     {
-        if !(1..=MOST_ZONES).contains(&(zones as usize)) {
+        if !(1..=MOST_ZONES).contains(&usize::from(zones)) {
             return Err(Fault::Missing);
         }
         let tree = Tree::new();

@@ -70,7 +70,7 @@ pub fn allow(phase: Phase, command: &Command) -> Result<Phase, Refusal>
     ensures { AllowedNext phase command.now result }
 {
     if let Some(number) = command.house() {
-        House::numbered(number)?;
+        House::try_from(number)?;
     }
     advance(phase, command)
 }
