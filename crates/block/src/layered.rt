@@ -10,6 +10,7 @@ use network::Network;
 use stream::Command;
 
 /// Which layer was given last.
+// Not a phase of the block: layers never stand where their base is not whole yet.
 #[derive(Clone, Copy, PartialEq, Eq, Debug)]
 pub enum Stage {
     Bare,

@@ -13,6 +13,7 @@ use table::Table;
 use tree::Tree;
 
 /// The base of the network, or the base with its layers.
+// A variant for each network, not one over either: the hours are compiled for each.
 #[derive(Drop)]
 pub enum Ground {
     Base { draft: Draft },
@@ -37,13 +38,11 @@ impl Ground {
         ensures { Takes self.old command.now result self.new }
     {
         match self {
-            Ground::Base { draft } => {
-                if !draft.ends_with(command) {
-                    return draft.grow(command);
-                }
+            Ground::Base { draft } if draft.ends_with(command) => {
                 *self = begin_layers(*draft, command)?;
                 Ok(())
             }
+            Ground::Base { draft } => draft.grow(command),
             Ground::OverTree { layered } => layered.lay(command),
             Ground::OverTable { layered } => layered.lay(command),
         }
