@@ -17,8 +17,7 @@ impl ReadFault {
         ensures { result ≡ offset_of self }
     {
         match self {
-            ReadFault::UnknownByte { offset } => offset,
-            ReadFault::MissingOperands { offset, .. } => offset,
+            ReadFault::UnknownByte { offset } | ReadFault::MissingOperands { offset, .. } => offset,
         }
     }
 
