@@ -21,6 +21,7 @@ pub fn decode(item: &Item<'_>) -> Option<Command>
 {
     let letter = item.letter;
     let operands = item.operands;
+    // Not `or_else`: what a closure gave is not seen in the proof, and a group reads no more than a byte of another's.
     network_command(letter, operands)
         .or(hour_command(letter, operands))
         .or(sheet_command(letter, operands))

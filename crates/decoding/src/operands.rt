@@ -32,6 +32,7 @@ impl Operands<'_> {
     }
 
     /// The next number of two bytes.
+    // `two` and `four` stay apart: no trait of std joins the number types' `from_le_bytes`.
     pub(crate) fn two(&mut self) -> Option<u16>
         ensures { MatchOption result (length self.old.rest.now < 2) (λ number. (self.old.rest.now ≡ le16 number ++ self.new.rest.now) × (length self.old.rest.now ≡ 2 + length self.new.rest.now)) }
     {

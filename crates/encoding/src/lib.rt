@@ -9,6 +9,7 @@ use std::alloc::{AllocError, Global};
 use stream::Command;
 
 /// Writes a number's two bytes.
+// `two` and `four` stay apart: no trait of std joins the number types' `to_le_bytes`.
 #[tactic(auto, unfolding(stream::specs::Spelling::le16))]
 fn two(bytes: &mut Vec<u8>, number: u16) -> Result<(), AllocError>
     ensures { OnOk result (bytes.new.items ≡ bytes.old.items ++ le16 number) }
