@@ -1,3 +1,2 @@
-mod Bytes
-mod Parts
-mod Wholes
+mod Groups
+mod Numbers

@@ -1,150 +1,128 @@
 //! From commands to the bytes of a stream.
 #![tactic(auto)]
 
-ghost use Rattle.std.specs.Prelude.{◌≡◌, ◌∷◌, ◌++◌, IfOk};
+ghost use Rattle.std.specs.Prelude.{◌≡◌, ◌++◌, IfOk, OnOk};
 ghost use Rattle.stream.specs.Spelling.{le16, le32, sensitivities, spelled};
 
 use auction::bounds::MOST_ZONES;
 use std::alloc::{AllocError, Global};
 use stream::Command;
 
-/// A number's two bytes.
-fn two(number: u16) -> [u8; 2]
-    ensures { result ≡ le16 number }
+/// Writes a number's two bytes.
+// `two` and `four` stay apart: no trait of std joins the number types' `to_le_bytes`.
+#[tactic(auto, unfolding(stream::specs::Spelling::le16))]
+fn two(bytes: &mut Vec<u8>, number: u16) -> Result<(), AllocError>
+    ensures { OnOk result (bytes.new.items ≡ bytes.old.items ++ le16 number) }
 {
-    number.to_le_bytes()
+    bytes.extend_from_slice(&number.to_le_bytes())
 }
 
-/// A number's four bytes.
-fn four(number: u32) -> [u8; 4]
-    ensures { result ≡ le32 number }
+/// Writes a number's four bytes.
+#[tactic(auto, unfolding(stream::specs::Spelling::le32))]
+fn four(bytes: &mut Vec<u8>, number: u32) -> Result<(), AllocError>
+    ensures { OnOk result (bytes.new.items ≡ bytes.old.items ++ le32 number) }
 {
-    number.to_le_bytes()
+    bytes.extend_from_slice(&number.to_le_bytes())
 }
 
-/// Some bytes and a number of two bytes.
-fn with_two(heap: Global, first: &[u8], number: u16) -> Result<Vec<u8>, AllocError>
-    ensures { IfOk result (λ v. v.items ≡ first.now ++ le16 number) }
+/// Writes a limit and a row of sensitivities.
+fn limit_and_row(bytes: &mut Vec<u8>, limit: u32, row: &[i16; MOST_ZONES]) -> Result<(), AllocError>
+    ensures { OnOk result (bytes.new.items ≡ (bytes.old.items ++ le32 limit) ++ sensitivities row.now) }
 {
-    let mut bytes = Vec::from_slice(heap, first)?;
-    bytes.extend_from_slice(&two(number))?;
-    Ok(bytes)
-}
-
-/// Some bytes and a number of four bytes.
-fn with_four(heap: Global, first: &[u8], number: u32) -> Result<Vec<u8>, AllocError>
-    ensures { IfOk result (λ v. v.items ≡ first.now ++ le32 number) }
-{
-    let mut bytes = Vec::from_slice(heap, first)?;
-    bytes.extend_from_slice(&four(number))?;
-    Ok(bytes)
-}
-
-/// Some bytes, a number of two bytes and one of four.
-fn with_two_four(
-    heap: Global,
-    first: &[u8],
-    number: u16,
-    quantity: u32,
-) -> Result<Vec<u8>, AllocError>
-    ensures { IfOk result (λ v. v.items ≡ (first.now ++ le16 number) ++ le32 quantity) }
-{
-    let mut bytes = with_two(heap, first, number)?;
-    bytes.extend_from_slice(&four(quantity))?;
-    Ok(bytes)
-}
-
-/// Some bytes and two numbers of four bytes.
-fn with_four_four(
-    heap: Global,
-    first: &[u8],
-    number: u32,
-    other: u32,
-) -> Result<Vec<u8>, AllocError>
-    ensures { IfOk result (λ v. v.items ≡ (first.now ++ le32 number) ++ le32 other) }
-{
-    let mut bytes = with_four(heap, first, number)?;
-    bytes.extend_from_slice(&four(other))?;
-    Ok(bytes)
-}
-
-/// A letter, a limit and a row of sensitivities.
-fn with_row(
-    heap: Global,
-    letter: u8,
-    limit: u32,
-    row: &[i16; MOST_ZONES],
-) -> Result<Vec<u8>, AllocError>
-    ensures { IfOk result (λ v. v.items ≡ letter ∷ le32 limit ++ sensitivities row.now) }
-{
-    let mut bytes = with_four(heap, &[letter], limit)?;
-    for i in 0..MOST_ZONES {
-        bytes.extend_from_slice(&two(row[i].cast_unsigned()))?;
+    four(bytes, limit)?;
+    for sensitivity in row {
+        two(bytes, sensitivity.cast_unsigned())?;
     }
-    Ok(bytes)
+    Ok(())
 }
 
 /// The bytes that spell a command.
 pub fn encode(heap: Global, command: &Command) -> Result<Vec<u8>, AllocError>
     ensures { IfOk result (λ v. v.items ≡ spelled command.now) }
 {
+    let mut bytes = Vec::from_slice(heap, &[command.letter()])?;
     match *command {
-        Command::Tree { zones } => Vec::from_slice(heap, &[b'Z', zones]),
-        Command::Table { zones } => Vec::from_slice(heap, &[b'Y', zones]),
+        Command::Open => {}
+        Command::Tree { zones: byte }
+        | Command::Table { zones: byte }
+        | Command::Close { house: byte }
+        | Command::Try { house: byte }
+        | Command::Settle { house: byte }
+        | Command::Void { house: byte } => bytes.push(byte)?,
         Command::Link {
             parent,
             to_parent,
             to_child,
-        } => with_four_four(heap, &[b'K', parent], to_parent, to_child),
+        } => {
+            bytes.push(parent)?;
+            four(&mut bytes, to_parent)?;
+            four(&mut bytes, to_child)?;
+        }
         Command::Row {
             limit,
             sensitivities,
-        } => with_row(heap, b'R', limit, &sensitivities),
-        Command::Monitor {
+        }
+        | Command::Monitor {
             limit,
             sensitivities,
-        } => with_row(heap, b'V', limit, &sensitivities),
-        Command::HoldBack { line, kwh } => with_four(heap, &[b'H', line], kwh),
-        Command::Open => Vec::from_slice(heap, b"G"),
+        } => limit_and_row(&mut bytes, limit, &sensitivities)?,
+        Command::HoldBack { line, kwh } => {
+            bytes.push(line)?;
+            four(&mut bytes, kwh)?;
+        }
         Command::Offer {
             house,
             zone,
             price,
             quantity,
-        } => with_four_four(heap, &[b'O', house, zone], price, quantity),
-        Command::Bid {
+        }
+        | Command::Bid {
             house,
             zone,
             price,
             quantity,
-        } => with_four_four(heap, &[b'B', house, zone], price, quantity),
+        } => {
+            bytes.extend_from_slice(&[house, zone])?;
+            four(&mut bytes, price)?;
+            four(&mut bytes, quantity)?;
+        }
         Command::Transfer {
             house,
             first,
             second,
             price,
             quantity,
-        } => with_four_four(heap, &[b'T', house, first, second], price, quantity),
+        } => {
+            bytes.extend_from_slice(&[house, first, second])?;
+            four(&mut bytes, price)?;
+            four(&mut bytes, quantity)?;
+        }
         Command::Withdraw {
             house,
             list,
             number,
-        } => with_two(heap, &[b'W', house, list], number),
-        Command::Close { house } => Vec::from_slice(heap, &[b'C', house]),
-        Command::Try { house } => Vec::from_slice(heap, &[b'Q', house]),
-        Command::Settle { house } => Vec::from_slice(heap, &[b'S', house]),
-        Command::Void { house } => Vec::from_slice(heap, &[b'X', house]),
+        } => {
+            bytes.extend_from_slice(&[house, list])?;
+            two(&mut bytes, number)?;
+        }
         Command::Quantity {
             house,
             list,
             number,
             quantity,
-        } => with_two_four(heap, &[b'A', house, list], number, quantity),
-        Command::Lambda { house, lambda } => with_four(
-            heap,
-            &[b'L', house],
-            lambda.cast_unsigned(),
-        ),
-        Command::ShadowPrice { house, line, price } => with_four(heap, &[b'M', house, line], price),
+        } => {
+            bytes.extend_from_slice(&[house, list])?;
+            two(&mut bytes, number)?;
+            four(&mut bytes, quantity)?;
+        }
+        Command::Lambda { house, lambda } => {
+            bytes.push(house)?;
+            four(&mut bytes, lambda.cast_unsigned())?;
+        }
+        Command::ShadowPrice { house, line, price } => {
+            bytes.extend_from_slice(&[house, line])?;
+            four(&mut bytes, price)?;
+        }
     }
+    Ok(bytes)
 }

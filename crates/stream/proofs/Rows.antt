@@ -1,5 +1,5 @@
 -- The sensitivities of a row, one after another.
-use Rattle.std.proofs.Common.{◌≡◌, ℕ, ◌+◌, ◌*◌, ◌<◌, List, [], ◌∷◌, ◌++◌, length, get_or, take, drop, set, ℤ, pos, sym, refl, ap, ◌∙◌, append_assoc, arith, drop-drop, take-add}
+use Rattle.std.proofs.Common.{◌≡◌, ℕ, ◌+◌, ◌<◌, List, [], ◌∷◌, ◌++◌, length, get_or, take, set, ℤ, pos, sym, refl, ap, ◌∙◌, append_assoc}
 use Rattle.std.proofs.lemmas.List.{take_more, take_more_set}
 use Rattle.stream.specs.Spelling.{signed16, sensitivities}
 
@@ -11,15 +11,13 @@ pub nothing_after : (xs : List ℕ) → xs ++ [] ≡ xs
 nothing_after [] = refl
 nothing_after (x ∷ xs) = ap (λ l. x ∷ l) (nothing_after xs)
 
--- one more sensitivity is two more bytes
-pub row_more : (row : List ℤ) (i : ℕ) (z : ℤ) (bytes : List ℕ) (at : ℕ) → i < length row → sensitivities (take i row) ≡ take (2 * i) (drop at bytes) → signed16 z ≡ take 2 (drop (at + 2 * i) bytes) → sensitivities (take (i + 1) (set row i z)) ≡ take (2 * (i + 1)) (drop at bytes)
-row_more row i z bytes at h so_far this =
+-- one more sensitivity that is read is two more bytes
+pub row_read : (row : List ℤ) (i : ℕ) (z : ℤ) (start rest next : List ℕ) → i < length row → start ≡ sensitivities (take i row) ++ rest → rest ≡ signed16 z ++ next → start ≡ sensitivities (take (i + 1) (set row i z)) ++ next
+row_read row i z start rest next h so_far this =
     let a : sensitivities (take (i + 1) (set row i z)) ≡ sensitivities (take i row ++ z ∷ []) = ap sensitivities (take_more_set row i z h) in
     let b : sensitivities (take i row ++ z ∷ []) ≡ sensitivities (take i row) ++ (signed16 z ++ []) = sensitivities_++ (take i row) (z ∷ []) in
     let e : signed16 z ++ [] ≡ signed16 z = nothing_after (signed16 z) in
-    let n : 2 * (i + 1) ≡ 2 * i + 2 = omega arith in
-    let t : take (2 * i + 2) (drop at bytes) ≡ take (2 * i) (drop at bytes) ++ take 2 (drop (2 * i) (drop at bytes)) = take-add (2 * i) 2 (drop at bytes) in
-    let d : drop (2 * i) (drop at bytes) ≡ drop (at + 2 * i) bytes = drop-drop (2 * i) at bytes in
+    let s : (sensitivities (take i row) ++ signed16 z) ++ next ≡ sensitivities (take i row) ++ (signed16 z ++ next) = append_assoc (sensitivities (take i row)) (signed16 z) next in
     cc
 
 -- the same of what is written

@@ -1,5 +1,5 @@
 -- What a fault of the reader says of the stream.
-use Rattle.std.specs.Prelude.{◌≡◌, ℕ, List}
+use Rattle.std.specs.Prelude.{◌≡◌, ℕ, List, ◌++◌, codes, decimal}
 use Rattle.auction.specs.declared.Refusal.{Refusal}
 use Rattle.auction.specs.declared.Refusal.TheVariants.{NoCommand, NoOperands}
 use Rattle.stream.specs.declared.reader.ReadFault.{ReadFault}
@@ -24,3 +24,8 @@ shown_letter (MissingOperands _ letter) = letter
 abbrev pub refused_as : ReadFault → Refusal
 refused_as (UnknownByte _) = NoCommand
 refused_as (MissingOperands _ _) = NoOperands
+
+-- what it says in words
+abbrev pub fault_words : ReadFault → List ℕ
+fault_words (UnknownByte offset) = codes "unknown byte at offset " ++ decimal offset
+fault_words (MissingOperands offset _) = codes "missing operands at offset " ++ decimal offset

@@ -6,7 +6,7 @@ ghost use Rattle.stream.specs.Spelling.{letter_of, house_of};
 use auction::bounds::MOST_ZONES;
 
 /// A command with its operands. The first seven make the network block, the others belong to a house.
-#[derive(Clone, Copy)]
+#[derive(Clone, Copy, Debug, PartialEq, Eq)]
 pub enum Command {
     /// `Z`: begins a network that is a tree of so many zones.
     Tree {
@@ -105,6 +105,7 @@ pub enum Command {
 
 impl Command {
     /// The letter in ASCII that the command begins with.
+    // A letter stays a byte, as the stream has it: an enum of the letters would be a second list of the same commands.
     pub fn letter(&self) -> u8
         ensures { result ≡ letter_of self.now }
     {
@@ -135,24 +136,24 @@ impl Command {
         ensures { result ≡ house_of self.now }
     {
         match *self {
-            Command::Tree { .. } => None,
-            Command::Table { .. } => None,
-            Command::Link { .. } => None,
-            Command::Row { .. } => None,
-            Command::Monitor { .. } => None,
-            Command::HoldBack { .. } => None,
-            Command::Open => None,
-            Command::Offer { house, .. } => Some(house),
-            Command::Bid { house, .. } => Some(house),
-            Command::Transfer { house, .. } => Some(house),
-            Command::Withdraw { house, .. } => Some(house),
-            Command::Close { house } => Some(house),
-            Command::Try { house } => Some(house),
-            Command::Settle { house } => Some(house),
-            Command::Void { house } => Some(house),
-            Command::Quantity { house, .. } => Some(house),
-            Command::Lambda { house, .. } => Some(house),
-            Command::ShadowPrice { house, .. } => Some(house),
+            Command::Tree { .. }
+            | Command::Table { .. }
+            | Command::Link { .. }
+            | Command::Row { .. }
+            | Command::Monitor { .. }
+            | Command::HoldBack { .. }
+            | Command::Open => None,
+            Command::Offer { house, .. }
+            | Command::Bid { house, .. }
+            | Command::Transfer { house, .. }
+            | Command::Withdraw { house, .. }
+            | Command::Close { house }
+            | Command::Try { house }
+            | Command::Settle { house }
+            | Command::Void { house }
+            | Command::Quantity { house, .. }
+            | Command::Lambda { house, .. }
+            | Command::ShadowPrice { house, .. } => Some(house),
         }
     }
 }

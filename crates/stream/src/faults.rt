@@ -1,10 +1,12 @@
 //! What a program that reports a fault of the reader needs of it.
 
-ghost use Rattle.std.specs.Prelude.{◌≡◌};
-ghost use Rattle.stream.specs.Faults.{offset_of, shown_letter, refused_as};
+ghost use Rattle.std.specs.Prelude.{◌≡◌, Some};
+ghost use Rattle.stream.specs.Faults.{offset_of, shown_letter, refused_as, fault_words};
 
 use crate::reader::ReadFault;
 use auction::Refusal;
+use std::error::Error;
+use std::fmt;
 
 /// Stands for the letter where a byte names no command.
 const NO_LETTER: u8 = b'?';
@@ -15,8 +17,7 @@ impl ReadFault {
         ensures { result ≡ offset_of self }
     {
         match self {
-            ReadFault::UnknownByte { offset } => offset,
-            ReadFault::MissingOperands { offset, .. } => offset,
+            ReadFault::UnknownByte { offset } | ReadFault::MissingOperands { offset, .. } => offset,
         }
     }
 
@@ -41,3 +42,18 @@ impl From<ReadFault> for Refusal {
         }
     }
 }
+
+impl fmt::Display for ReadFault {
+    ghost output = { λ fault. Some (fault_words fault) };
+
+    fn fmt<W: fmt::Write>(&self, f: &mut fmt::Formatter<W>) -> fmt::Result {
+        match *self {
+            ReadFault::UnknownByte { offset } => write!(f, "unknown byte at offset {offset}"),
+            ReadFault::MissingOperands { offset, .. } => {
+                write!(f, "missing operands at offset {offset}")
+            }
+        }
+    }
+}
+
+impl Error for ReadFault {}

@@ -5,27 +5,22 @@ ghost use Rattle.stream.specs.Reading.{network_length, hour_length, sheet_length
 ghost use Rattle.stream.specs.Letters.{SpelledStands};
 
 /// How many bytes of operands follow a letter; none for a byte that names no command.
+#[tactic(auto, unfolding(crate::specs::Reading::operand_length))]
 pub fn operand_length(letter: u8) -> Option<usize>
     ensures { result ≡ operand_length letter }
 {
-    if let Some(length) = network_length(letter) {
-        return Some(length);
-    }
-    if let Some(length) = hour_length(letter) {
-        return Some(length);
-    }
-    sheet_length(letter)
+    network_length(letter)
+        .or(hour_length(letter))
+        .or(sheet_length(letter))
 }
 
 fn network_length(letter: u8) -> Option<usize>
     ensures { result ≡ network_length letter }
 {
     match letter {
-        b'Z' => Some(1),
-        b'Y' => Some(1),
+        b'Z' | b'Y' => Some(1),
         b'K' => Some(9),
-        b'R' => Some(52),
-        b'V' => Some(52),
+        b'R' | b'V' => Some(52),
         b'H' => Some(5),
         b'G' => Some(0),
         _ => None,
@@ -36,14 +31,10 @@ fn hour_length(letter: u8) -> Option<usize>
     ensures { result ≡ hour_length letter }
 {
     match letter {
-        b'O' => Some(10),
-        b'B' => Some(10),
+        b'O' | b'B' => Some(10),
         b'T' => Some(11),
         b'W' => Some(4),
-        b'C' => Some(1),
-        b'Q' => Some(1),
-        b'S' => Some(1),
-        b'X' => Some(1),
+        b'C' | b'Q' | b'S' | b'X' => Some(1),
         _ => None,
     }
 }

@@ -10,7 +10,7 @@ use crate::lengths::operand_length;
 pub const MOST_BYTES: usize = 65536;
 
 /// A letter that stands at an offset of the stream, with its operands.
-#[derive(Clone, Copy)]
+#[derive(Clone, Copy, Debug, PartialEq, Eq)]
 pub struct Item<'a> {
     pub offset: usize,
     pub letter: u8,
@@ -18,7 +18,7 @@ pub struct Item<'a> {
 }
 
 /// Why a stream is read no further.
-#[derive(Clone, Copy, Debug)]
+#[derive(Clone, Copy, Debug, PartialEq, Eq)]
 pub enum ReadFault {
     /// The byte at the offset names no command.
     UnknownByte { offset: usize },
@@ -27,7 +27,7 @@ pub enum ReadFault {
 }
 
 /// Reads a stream item by item.
-#[derive(Clone, Copy)]
+#[derive(Clone, Copy, Debug, PartialEq, Eq)]
 pub struct Reader<'a> {
     bytes: &'a [u8],
     at: usize,
@@ -35,42 +35,33 @@ pub struct Reader<'a> {
 
 impl<'a> Reader<'a> {
     /// A reader at the start of the stream.
+    #[tactic(auto, using(std::proofs::lemmas::List::take_min))]
     pub fn new(stream: &'a [u8]) -> Reader<'a>
         ensures { (result.bytes.now ≡ take 65536 stream.now) × (result.at ≡ 0) }
     {
-        if stream.len() <= MOST_BYTES {
-            return Reader {
-                bytes: stream,
-                at: 0,
-            };
-        }
         Reader {
-            bytes: &stream[0..MOST_BYTES],
+            bytes: &stream[..MOST_BYTES.min(stream.len())],
             at: 0,
         }
     }
 
     /// The next item; none at the end. After a fault the stream is read no further: the reader stands at its end.
+    // No `Iterator`: a reader is `Copy`, so a `for` would read a copy, and leave the reader itself where it stood.
     pub fn next(&mut self) -> Result<Option<Item<'a>>, ReadFault>
         ensures kept { self.new.bytes.now ≡ self.old.bytes.now }
         ensures read { MatchResult result (λ o. MatchOption o ((length self.old.bytes.now ≤ self.old.at) × (self.new.at ≡ self.old.at)) (λ item. (item.offset ≡ self.old.at) × Stands self.old.bytes.now self.old.at item.letter item.operands.now self.new.at)) (λ fault. Faulty self.old.bytes.now self.old.at fault × (self.new.at ≡ length self.old.bytes.now)) }
     {
-        let bytes = self.bytes;
         let offset = self.at;
-        if offset >= bytes.len() {
+        let Some(&letter) = self.bytes.get(offset) else {
             return Ok(None);
-        }
-        let letter = bytes[offset];
-        let rest = &bytes[offset + 1..];
-        self.at = bytes.len();
-        let Some(wanted) = operand_length(letter) else {
-            return Err(ReadFault::UnknownByte { offset });
         };
-        if wanted > rest.len() {
-            return Err(ReadFault::MissingOperands { offset, letter });
-        }
+        let rest = &self.bytes[offset + 1..];
+        self.at = self.bytes.len();
+        let wanted = operand_length(letter).ok_or(ReadFault::UnknownByte { offset })?;
+        let operands = rest
+            .get(..wanted)
+            .ok_or(ReadFault::MissingOperands { offset, letter })?;
         self.at = offset + 1 + wanted;
-        let operands = &rest[0..wanted];
         Ok(Some(Item {
             offset,
             letter,
