@@ -93,7 +93,7 @@ fn charge_at<L: OrderList>(
     requires { (number < length (L.OrderList.entries list.now)) × (Takes (entry (L.OrderList.entries list.now) number) (dispatch_of sheet.now index number)) }
     ensures { Term (L.OrderList.entries list.now) (dispatch_of sheet.now index) (own_charge (array_prices prices.now) (house_number house)) 4294967296 number result }
 {
-    if list.house(number).number() != house.number() {
+    if list.house(number) != house {
         return 0;
     }
     -proceeds_at(list, index, sheet, number, prices)
