@@ -7,3 +7,4 @@ pub mod Hours
 pub mod Refusals
 pub mod Rules
 pub mod Houses
+pub mod PerHouse

@@ -2,6 +2,9 @@
 #![tactic(auto)]
 
 pub mod bounds;
+mod houses;
+
+pub use houses::PerHouse;
 
 ghost use Rattle.std.specs.Prelude.{◌≡◌, ◌≤◌, MatchResult};
 ghost use Rattle.auction.specs.Refusals.{broken_number, broken_place, refusal_number, refusal_place, refusal_of};

@@ -6,7 +6,7 @@ use auction::bounds::{MOST_LINES, MOST_ORDERS, MOST_ZONES};
 use judgement::judge;
 use kinds::{Bids, Offers, TransferWish, Transfers, ZoneWish};
 use listed::Listed;
-use orders::OrderList;
+use orders::{Book, OrderList};
 use sheets::Sheet;
 use table::Table;
 
@@ -70,14 +70,16 @@ fn full_transfers() -> Option<Transfers> {
 /// At a price of 2000 cents everywhere no order gains by taking anything, so the sheet is accepted, and all rules are gone through.
 fn judged(rounds: u32) -> Option<u32> {
     let table = full_table()?;
-    let offers = full_offers()?;
-    let bids = full_bids()?;
-    let transfers = full_transfers()?;
+    let book = Book {
+        first: full_offers()?,
+        second: full_bids()?,
+        third: full_transfers()?,
+    };
     let mut sheet = Sheet::empty();
     sheet.fill_lambda(2_000_000).ok()?;
     let mut accepted = 0u32;
     for _ in 0..rounds {
-        if judge(&table, &offers, &bids, &transfers, &sheet).is_ok() {
+        if judge(&table, &book, &sheet).is_ok() {
             accepted = accepted.saturating_add(1);
         }
     }

@@ -3,22 +3,20 @@ use Rattle.std.specs.Prelude.{◌≡◌, ◌∷◌}
 use Rattle.auction.specs.declared.House.{House}
 use Rattle.network.specs.declared.Network.{Ghosts as NetworkMeaning}
 use Rattle.orders.specs.declared.OrderList.{Ghosts as ListMeaning}
+use Rattle.orders.specs.Books.{booked}
 use Rattle.ledger.specs.Pages.{page}
 use Rattle.history.specs.declared.calls.Call.{Call}
-use Rattle.history.specs.Events.{Answer, History, Kinds, by_list}
+use Rattle.history.specs.Events.{Answer, History}
 use Rattle.history.specs.Situations.{Situation}
 use Rattle.history.specs.Promise.{Promise}
 use Rattle.history.specs.Handling.{Handled, Outcome}
 use Rattle.history.specs.Keeping.{Keeps}
 use Rattle.steps.specs.Parts.{situation_of}
+pub use Rattle.steps.specs.Parts.{kinds_of}
 use Rattle.clearing.specs.declared.state.ClearingBox.{ClearingBox}
 
--- what the three lists take, each by its own kind
-abbrev pub kinds_of : {X Y W P Q R : Type 0} → ListMeaning X P → ListMeaning Y Q → ListMeaning W R → Kinds P Q R
-kinds_of x y w = record { order = by_list x.order y.order w.order; exists = by_list x.exists y.exists w.exists; ranged = by_list x.ranged y.ranged w.ranged }
-
 abbrev pub situation : {N X Y W P Q R : Type 0} → ListMeaning X P → ListMeaning Y Q → ListMeaning W R → ClearingBox N X Y W → Situation
-situation x y w b = situation_of (x.entries b.first) (y.entries b.second) (w.entries b.third) b.sheets (page b.ledger)
+situation x y w b = situation_of (booked x y w b.book) b.sheets (page b.ledger)
 
 -- the box handles a call that the hour allows, over the same network
 abbrev pub Handles : {N X Y W P Q R : Type 0} → NetworkMeaning N → ListMeaning X P → ListMeaning Y Q → ListMeaning W R → House → Call P Q R → ClearingBox N X Y W → Answer → ClearingBox N X Y W → Type 0

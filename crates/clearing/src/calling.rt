@@ -7,11 +7,11 @@ ghost use Rattle.clearing.specs.Views.{BoxKeeps, CarriesOn, ComesOut, situation}
 
 use crate::state::ClearingBox;
 use auction::{House, Refusal};
-use filling::Sheets;
+use filling::blank;
 use history::{Call, Reply};
 use ledger::{Ledger, Phase};
 use network::Network;
-use orders::OrderList;
+use orders::{Book, OrderList};
 
 impl<N: Network, X: OrderList, Y: OrderList, W: OrderList> ClearingBox<N, X, Y, W>
 where
@@ -26,10 +26,12 @@ where
     {
         let mut opened = ClearingBox {
             network,
-            first,
-            second,
-            third,
-            sheets: Sheets::blank(),
+            book: Book {
+                first,
+                second,
+                third,
+            },
+            sheets: blank(),
             ledger: Ledger::opening(),
         };
         opened.clear();

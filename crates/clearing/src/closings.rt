@@ -3,17 +3,17 @@
 ghost use Rattle.std.specs.Prelude.{◌≡◌, true, [], length, Decides};
 ghost use Rattle.auction.specs.Houses.{house_number};
 ghost use Rattle.auction.specs.Hours.{list_at};
-ghost use Rattle.judgement.specs.Verdicts.{book_of};
+ghost use Rattle.orders.specs.Books.{booked, book_of};
 ghost use Rattle.ledger.specs.Pages.{page};
 ghost use Rattle.filling.specs.Sheets.{Blank};
 ghost use Rattle.history.specs.declared.calls.Call.TheVariants as Calls;
 ghost use Rattle.history.specs.Right.{Fillable};
 ghost use Rattle.clearing.specs.Views.{Handles, situation};
 
-use crate::judging::judged;
+use crate::judging::{accepted, judged};
 use crate::state::ClearingBox;
-use auction::{House, Refusal};
-use filling::Sheets;
+use auction::{House, PerHouse, Refusal};
+use filling::{blank, fill};
 use history::{Filling, Reply};
 use network::Network;
 use orders::OrderList;
@@ -21,24 +21,24 @@ use orders::OrderList;
 impl<N: Network, X: OrderList, Y: OrderList, W: OrderList> ClearingBox<N, X, Y, W> {
     /// How many orders were entered in a list.
     fn count(&self, list: u8) -> usize
-        ensures { result ≡ length (list_at (book_of (X.OrderList.entries self.now.first) (Y.OrderList.entries self.now.second) (W.OrderList.entries self.now.third)) list) }
+        ensures { result ≡ length (list_at (booked X.OrderList Y.OrderList W.OrderList self.now.book) list) }
     {
         match list {
-            0 => self.first.count(),
-            1 => self.second.count(),
-            2 => self.third.count(),
+            0 => self.book.first.count(),
+            1 => self.book.second.count(),
+            2 => self.book.third.count(),
             _ => 0,
         }
     }
 
     /// Is the order or the line there that is filled in for?
     fn fillable(&self, filling: Filling) -> bool
-        ensures { Decides result (Fillable (N.Network.grid self.now.network) (book_of (X.OrderList.entries self.now.first) (Y.OrderList.entries self.now.second) (W.OrderList.entries self.now.third)) filling) }
+        ensures { Decides result (Fillable (N.Network.grid self.now.network) (booked X.OrderList Y.OrderList W.OrderList self.now.book) filling) }
     {
         match filling {
-            Filling::Quantity { list, number, .. } => (number as usize) < self.count(list),
+            Filling::Quantity { list, number, .. } => usize::from(number) < self.count(list),
             Filling::Lambda { .. } => true,
-            Filling::ShadowPrice { line, .. } => (line as usize) < self.network.lines(),
+            Filling::ShadowPrice { line, .. } => usize::from(line) < self.network.lines(),
         }
     }
 
@@ -49,7 +49,7 @@ impl<N: Network, X: OrderList, Y: OrderList, W: OrderList> ClearingBox<N, X, Y, 
         if !self.fillable(filling) {
             return Err(Refusal::Missing);
         }
-        self.sheets.fill(house, filling)?;
+        fill(&mut self.sheets, house, filling)?;
         Ok(Reply::Done)
     }
 
@@ -57,32 +57,21 @@ impl<N: Network, X: OrderList, Y: OrderList, W: OrderList> ClearingBox<N, X, Y, 
     pub(crate) fn try_sheet(&mut self, house: House) -> Result<Reply, Refusal>
         ensures { Handles N.Network X.OrderList Y.OrderList W.OrderList house (Calls.Try (house_number house)) self.old result self.new }
     {
-        let verdict = judged(
-            &mut self.ledger,
-            &self.network,
-            &self.first,
-            &self.second,
-            &self.third,
-            self.sheets.of(house),
-        )?;
-        Ok(Reply::Accepted {
-            welfare: verdict.welfare,
-            rent: verdict.rent,
-        })
+        let sheet = self.sheets.of(house);
+        let verdict = judged(&mut self.ledger, &self.network, &self.book, sheet)?;
+        Ok(accepted(&verdict))
     }
 
     /// Forgets orders and sheets, for a new hour.
     pub(crate) fn clear(&mut self)
         ensures kept { (self.new.network ≡ self.old.network) × (self.new.ledger ≡ self.old.ledger) }
-        ensures first { X.OrderList.entries self.new.first ≡ [] }
-        ensures second { Y.OrderList.entries self.new.second ≡ [] }
-        ensures third { W.OrderList.entries self.new.third ≡ [] }
+        ensures orders { booked X.OrderList Y.OrderList W.OrderList self.new.book ≡ book_of [] [] [] }
         ensures sheets { Blank self.new.sheets }
     {
-        self.first.clear();
-        self.second.clear();
-        self.third.clear();
-        self.sheets = Sheets::blank();
+        self.book.first.clear();
+        self.book.second.clear();
+        self.book.third.clear();
+        self.sheets = blank();
     }
 
     /// Judges the house's sheet, and where it breaks no rule posts the amounts and the rent and starts a new hour.
@@ -90,20 +79,15 @@ impl<N: Network, X: OrderList, Y: OrderList, W: OrderList> ClearingBox<N, X, Y, 
         requires { (page self.old.ledger).closed ≡ true }
         ensures { Handles N.Network X.OrderList Y.OrderList W.OrderList house (Calls.Settle (house_number house)) self.old result self.new }
     {
-        let verdict = judged(
-            &mut self.ledger,
-            &self.network,
-            &self.first,
-            &self.second,
-            &self.third,
-            self.sheets.of(house),
-        )?;
-        self.ledger.settle(verdict.zero, verdict.one, verdict.rent);
+        let sheet = self.sheets.of(house);
+        let verdict = judged(&mut self.ledger, &self.network, &self.book, sheet)?;
+        let amounts = PerHouse {
+            zero: verdict.zero,
+            one: verdict.one,
+        };
+        self.ledger.settle(amounts, verdict.rent);
         self.clear();
-        Ok(Reply::Accepted {
-            welfare: verdict.welfare,
-            rent: verdict.rent,
-        })
+        Ok(accepted(&verdict))
     }
 
     /// Starts a new hour without money.

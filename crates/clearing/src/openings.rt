@@ -22,13 +22,31 @@ impl<N: Network, X: OrderList, Y: OrderList, W: OrderList> ClearingBox<N, X, Y, 
         ensures { Handles N.Network X.OrderList Y.OrderList W.OrderList house (Calls.Enter (house_number house) wish) self.old result self.new }
     {
         let zones = self.network.zones();
-        let first = self.first.standing_kwh();
-        let second = self.second.standing_kwh();
-        let third = self.third.standing_kwh();
+        let first = self.book.first.standing_kwh();
+        let second = self.book.second.standing_kwh();
+        let third = self.book.third.standing_kwh();
         match wish {
-            Wish::First(wish) => enter_into(&mut self.first, house, wish, zones, second + third),
-            Wish::Second(wish) => enter_into(&mut self.second, house, wish, zones, first + third),
-            Wish::Third(wish) => enter_into(&mut self.third, house, wish, zones, first + second),
+            Wish::First(wish) => enter_into(
+                &mut self.book.first,
+                house,
+                wish,
+                zones,
+                second + third,
+            ),
+            Wish::Second(wish) => enter_into(
+                &mut self.book.second,
+                house,
+                wish,
+                zones,
+                first + third,
+            ),
+            Wish::Third(wish) => enter_into(
+                &mut self.book.third,
+                house,
+                wish,
+                zones,
+                first + second,
+            ),
         }
     }
 
@@ -37,9 +55,9 @@ impl<N: Network, X: OrderList, Y: OrderList, W: OrderList> ClearingBox<N, X, Y, 
         ensures { Handles N.Network X.OrderList Y.OrderList W.OrderList house (Calls.Withdraw (house_number house) list number) self.old result self.new }
     {
         match list {
-            0 => withdraw_from(&mut self.first, house, number as usize),
-            1 => withdraw_from(&mut self.second, house, number as usize),
-            2 => withdraw_from(&mut self.third, house, number as usize),
+            0 => withdraw_from(&mut self.book.first, house, number as usize),
+            1 => withdraw_from(&mut self.book.second, house, number as usize),
+            2 => withdraw_from(&mut self.book.third, house, number as usize),
             _ => Err(Refusal::Missing),
         }
     }

@@ -2,6 +2,7 @@
 use Rattle.std.specs.Prelude.{◌≡◌, ℕ, ◌<◌, pos, Some, None, Option}
 use Rattle.auction.specs.declared.House.{House}
 use Rattle.auction.specs.declared.House.TheVariants.{Zero, One}
+use Rattle.auction.specs.declared.houses.PerHouse.{PerHouse}
 use Rattle.auction.specs.Houses.{by_house}
 use Rattle.auction.specs.Bounds.{most_orders, most_lines}
 use Rattle.auction.specs.Hours.{Dispatch, Prices}
@@ -10,7 +11,10 @@ use Rattle.sheets.specs.Proposals.{dispatch_of, prices_of}
 use Rattle.history.specs.declared.calls.Filling.{Filling}
 use Rattle.history.specs.declared.calls.Filling.TheVariants.{Quantity, Lambda, ShadowPrice}
 use Rattle.history.specs.Words.{set_quantity, set_lambda, set_shadow}
-use Rattle.filling.specs.declared.Sheets.{Sheets}
+
+-- the sheet of each house
+abbrev pub Sheets : Type 0
+Sheets = PerHouse Sheet
 
 abbrev pub sheet_of : Sheets → House → Sheet
 sheet_of s = by_house s.zero s.one

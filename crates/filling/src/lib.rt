@@ -4,49 +4,30 @@
 ghost use Rattle.std.specs.Prelude.{◌≡◌, Some};
 ghost use Rattle.auction.specs.Refusals.{Answered, Always};
 ghost use Rattle.history.specs.Right.{Fitting};
-ghost use Rattle.filling.specs.Sheets.{sheet_of, HasPlace, Filled, SheetFilled, filling_for, Blank};
+ghost use Rattle.filling.specs.Sheets.{HasPlace, Filled, SheetFilled, filling_for, Blank};
 
-use auction::{Fault, House};
+use auction::{Fault, House, PerHouse};
 use history::Filling;
 use sheets::Sheet;
 
 /// The sheet of each house.
-#[derive(Clone, Copy)]
-pub struct Sheets {
-    zero: Sheet,
-    one: Sheet,
+pub type Sheets = PerHouse<Sheet>;
+
+/// The sheets of a new hour.
+pub fn blank() -> Sheets
+    ensures { Blank result }
+{
+    PerHouse {
+        zero: Sheet::empty(),
+        one: Sheet::empty(),
+    }
 }
 
-impl Sheets {
-    /// The sheets of a new hour.
-    pub fn blank() -> Sheets
-        ensures { Blank result }
-    {
-        Sheets {
-            zero: Sheet::empty(),
-            one: Sheet::empty(),
-        }
-    }
-
-    /// The sheet of a house.
-    pub fn of(&self, house: House) -> &Sheet
-        ensures { result.now ≡ sheet_of self.now house }
-    {
-        match house {
-            House::Zero => &self.zero,
-            House::One => &self.one,
-        }
-    }
-
-    /// Fills one number into the sheet of a house.
-    pub fn fill(&mut self, house: House, filling: Filling) -> Result<(), Fault>
-        ensures { Answered result (HasPlace filling) (Fitting filling) Always (λ _. Filled self.old self.new (filling_for house filling)) (self.new ≡ self.old) }
-    {
-        match house {
-            House::Zero => fill_sheet(&mut self.zero, filling),
-            House::One => fill_sheet(&mut self.one, filling),
-        }
-    }
+/// Fills one number into the sheet of a house.
+pub fn fill(sheets: &mut Sheets, house: House, filling: Filling) -> Result<(), Fault>
+    ensures { Answered result (HasPlace filling) (Fitting filling) Always (λ _. Filled sheets.old sheets.new (filling_for house filling)) (sheets.new ≡ sheets.old) }
+{
+    fill_sheet(sheets.of_mut(house), filling)
 }
 
 /// Fills one number into a sheet.
@@ -55,9 +36,9 @@ fn fill_sheet(sheet: &mut Sheet, filling: Filling) -> Result<(), Fault>
 {
     match filling {
         Filling::Quantity { list, number, kwh } => {
-            sheet.fill_quantity(list as usize, number as usize, kwh)
+            sheet.fill_quantity(usize::from(list), usize::from(number), kwh)
         }
         Filling::Lambda { lambda } => sheet.fill_lambda(lambda),
-        Filling::ShadowPrice { line, price } => sheet.fill_shadow_price(line as usize, price),
+        Filling::ShadowPrice { line, price } => sheet.fill_shadow_price(usize::from(line), price),
     }
 }

@@ -47,13 +47,13 @@ impl<P, Q, R> Call<P, Q, R> {
         ensures { result ≡ caller_number self.now }
     {
         match self {
-            Call::Enter { house, .. } => *house,
-            Call::Withdraw { house, .. } => *house,
-            Call::Close { house } => *house,
-            Call::Fill { house, .. } => *house,
-            Call::Try { house } => *house,
-            Call::Settle { house } => *house,
-            Call::Void { house } => *house,
+            Call::Enter { house, .. }
+            | Call::Withdraw { house, .. }
+            | Call::Close { house }
+            | Call::Fill { house, .. }
+            | Call::Try { house }
+            | Call::Settle { house }
+            | Call::Void { house } => *house,
         }
     }
 }

@@ -4,7 +4,7 @@ use borrow.Author.Differences.{ints}
 use Rattle.auction.specs.Sums.{Σ}
 use Rattle.auction.specs.Hours.{Entry, Dispatch, over_orders}
 use Rattle.judgement.specs.Parts.{first_sum, list_sum}
-use Rattle.judgement.specs.Verdicts.{book_of}
+use Rattle.orders.specs.Books.{book_of}
 
 pub three_lists : (x y z : List Entry) (d : Dispatch) (f : Entry → ℕ → ℤ) → (list_sum x (d 0) f +ℤ list_sum y (d 1) f) +ℤ list_sum z (d 2) f ≡ over_orders (book_of x y z) d f
 unfolding over_orders Σ first_sum

@@ -8,7 +8,7 @@ use Rattle.auction.specs.Orders.{ZonePrices}
 use Rattle.judgement.specs.Parts.{own_charge}
 use Rattle.judgement.specs.declared.verdict.Verdict.{Verdict}
 pub use Rattle.flows.specs.Flows.{Priced, array_flow, discount}
-pub use Rattle.places.specs.Places.{book_of, FirstOrder, OfOrder}
+pub use Rattle.places.specs.Places.{FirstOrder, OfOrder}
 
 -- an array of net injections that are not too large
 abbrev pub SmallNets : List ℤ → Type 0

@@ -3,9 +3,10 @@
 ghost use Rattle.std.specs.Prelude.{◌≡◌, ◌<◌, ◌≤◌, unsigned_abs};
 ghost use Rattle.auction.specs.Bounds.{most_zones};
 ghost use Rattle.auction.specs.Hours.{net_injection};
+ghost use Rattle.orders.specs.Books.{book_of};
 ghost use Rattle.sheets.specs.Proposals.{dispatch_of};
 ghost use Rattle.judgement.specs.Parts.{AllTake};
-ghost use Rattle.judgement.specs.Verdicts.{book_of, Nets};
+ghost use Rattle.judgement.specs.Verdicts.{Nets};
 
 use crate::lists::injection_of;
 use crate::numbers::plus;

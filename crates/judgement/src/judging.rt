@@ -3,10 +3,11 @@
 ghost use Rattle.std.specs.Prelude.{◌≡◌};
 ghost use Rattle.auction.specs.Houses.{house_number};
 ghost use Rattle.auction.specs.Hours.{over_orders, welfare_of};
+ghost use Rattle.orders.specs.Books.{booked, book_of};
 ghost use Rattle.orders.specs.Reads.{array_prices};
 ghost use Rattle.sheets.specs.Proposals.{dispatch_of, prices_of};
 ghost use Rattle.judgement.specs.Parts.{AllTake, own_charge};
-ghost use Rattle.judgement.specs.Verdicts.{Accounts, Judged, Ruled, book_of};
+ghost use Rattle.judgement.specs.Verdicts.{Accounts, Judged, Ruled};
 
 use crate::injections::net_injections;
 use crate::lists::{charges_of, worth_of};
@@ -16,7 +17,7 @@ use auction::bounds::MOST_ZONES;
 use auction::{Broken, House};
 use flows::{first_overloaded, first_unbound, in_balance, rent_of, zone_prices};
 use network::Network;
-use orders::OrderList;
+use orders::{Book, OrderList};
 use places::{discontent, impossible};
 use sheets::Sheet;
 
@@ -114,15 +115,20 @@ fn accounts<N: Network, X: OrderList, Y: OrderList, W: OrderList>(
 /// Judges a sheet: what an accepted one amounts to, or the first rule that it breaks, at its first place.
 pub fn judge<N: Network, X: OrderList, Y: OrderList, W: OrderList>(
     network: &N,
-    first: &X,
-    second: &Y,
-    third: &W,
+    book: &Book<X, Y, W>,
     sheet: &Sheet,
 ) -> Result<Verdict, Broken>
-    ensures { Judged (N.Network.grid network.now) (book_of (X.OrderList.entries first.now) (Y.OrderList.entries second.now) (W.OrderList.entries third.now)) (dispatch_of sheet.now) (prices_of sheet.now) result }
+    ensures { Judged (N.Network.grid network.now) (booked X.OrderList Y.OrderList W.OrderList book.now) (dispatch_of sheet.now) (prices_of sheet.now) result }
 {
-    match rules(network, first, second, third, sheet) {
+    match rules(network, &book.first, &book.second, &book.third, sheet) {
         Err(broken) => Err(broken),
-        Ok(prices) => Ok(accounts(network, first, second, third, sheet, &prices)),
+        Ok(prices) => Ok(accounts(
+            network,
+            &book.first,
+            &book.second,
+            &book.third,
+            sheet,
+            &prices,
+        )),
     }
 }

@@ -15,22 +15,22 @@ pub record Page : Type 0 where
   pub rent : ℤ
 
 abbrev pub page : Ledger → Page
-page l = record { closed = is_closed l.phase; tries = l.tries; settled = l.accounts.settled; zero = l.accounts.zero; one = l.accounts.one; rent = l.accounts.rent }
+page l = record { closed = is_closed l.phase; tries = l.tries; settled = l.accounts.settled; zero = l.accounts.paid.zero; one = l.accounts.paid.one; rent = l.accounts.rent }
 
 -- at the opening
 abbrev pub first_page : Page
 first_page = record { closed = false; tries = 0; settled = 0; zero = pos 0; one = pos 0; rent = pos 0 }
 
 abbrev pub closed_page : Page → Page
-closed_page p = record { closed = true; tries = p.tries; settled = p.settled; zero = p.zero; one = p.one; rent = p.rent }
+closed_page p = record p { closed = true }
 
 -- one try more
 abbrev pub tried_page : Page → Page
-tried_page p = record { closed = p.closed; tries = suc p.tries; settled = p.settled; zero = p.zero; one = p.one; rent = p.rent }
+tried_page p = record p { tries = suc p.tries }
 
 -- a new open hour
 abbrev pub new_page : Page → Page
-new_page p = record { closed = false; tries = 0; settled = p.settled; zero = p.zero; one = p.one; rent = p.rent }
+new_page p = record p { closed = false; tries = 0 }
 
 -- a new open hour after this one was settled with these amounts and this rent; only a closed hour is settled
 abbrev pub settled_page : Page → ℤ → ℤ → ℤ → Page

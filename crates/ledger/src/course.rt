@@ -11,7 +11,7 @@ use crate::accounts::Accounts;
 use crate::ledger::Ledger;
 use crate::phase::Phase;
 use auction::bounds::{MOST_HOURS, MOST_TRIES};
-use auction::{Fault, House, Refusal};
+use auction::{Fault, House, PerHouse, Refusal};
 
 impl Ledger {
     /// An open hour, with nothing tried, settled or paid.
@@ -23,8 +23,7 @@ impl Ledger {
             tries: 0,
             accounts: Accounts {
                 settled: 0,
-                zero: 0,
-                one: 0,
+                paid: PerHouse { zero: 0, one: 0 },
                 rent: 0,
             },
         }
@@ -59,18 +58,12 @@ impl Ledger {
     }
 
     /// Posts a closed hour to the accounts and starts a new open hour; an open hour stays as it is.
-    pub fn settle(&mut self, zero: i64, one: i64, rent: i64)
-        ensures { page self.new ≡ settled_page (page self.old) zero one rent }
+    pub fn settle(&mut self, amounts: PerHouse<i64>, rent: i64)
+        ensures { page self.new ≡ settled_page (page self.old) amounts.zero amounts.one rent }
     {
-        match self.phase {
-            Phase::Open => {}
-            Phase::Closed => {
-                *self = Ledger {
-                    phase: Phase::Open,
-                    tries: 0,
-                    accounts: self.accounts.posted(zero, one, rent),
-                };
-            }
+        if self.phase == Phase::Closed {
+            self.start_anew();
+            self.accounts = self.accounts.posted(amounts, rent);
         }
     }
 
@@ -86,10 +79,7 @@ impl Ledger {
     pub fn account(&self, house: House) -> i128
         ensures { result ≡ paid_by (page self.now) house }
     {
-        match house {
-            House::Zero => self.accounts.zero,
-            House::One => self.accounts.one,
-        }
+        *self.accounts.paid.of(house)
     }
 
     /// The congestion rent of all hours settled since the opening.

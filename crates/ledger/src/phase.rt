@@ -1,7 +1,7 @@
 //! How far an hour has come.
 
 /// An open hour takes orders, a closed one has sheets filled in and judged.
-#[derive(Clone, Copy)]
+#[derive(Clone, Copy, PartialEq, Eq, Debug)]
 pub enum Phase {
     Open,
     Closed,

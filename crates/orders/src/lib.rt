@@ -9,8 +9,11 @@ ghost use Rattle.auction.specs.Orders.{Order, Sound};
 ghost use Rattle.auction.specs.Refusals.{Answered};
 ghost use Rattle.orders.specs.Reads.{entry, Answers, ContentAt, standing_kwh, without, PlaceLeft};
 
+mod book;
+
 pub use auction::bounds::MOST_ZONES;
 use auction::{Fault, House};
+pub use book::Book;
 
 /// What the box asks of a list of orders. A query never refuses and alters nothing; beyond the list it answers 0, false or not content.
 pub trait OrderList {

@@ -1,9 +1,10 @@
 -- The first order of three lists, from the first of each list.
 use Rattle.std.proofs.Common.{ℕ, zero, suc, ◌<◌, List, length, Some, None, arith}
 use Rattle.auction.specs.Hours.{Entry, Dispatch}
+use Rattle.orders.specs.Books.{book_of}
 use Rattle.orders.specs.Reads.{entry}
 use Rattle.flows.specs.Firsts.{FirstFailing}
-use Rattle.places.specs.Places.{FirstOrder, OfOrder, book_of}
+use Rattle.places.specs.Places.{FirstOrder, OfOrder}
 
 module _ (x y z : List Entry) (d : Dispatch) (Q : Entry → ℕ → Type 0) where
   none_left : (n : ℕ) → n < 0 → ⊥

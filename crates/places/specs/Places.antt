@@ -1,11 +1,7 @@
 -- The first order of three lists that is not as it is to be.
-use Rattle.std.specs.Prelude.{◌≡◌, ℕ, ◌<◌, true, List, [], ◌∷◌, length, Some, None, Option}
+use Rattle.std.specs.Prelude.{◌≡◌, ℕ, ◌<◌, true, length, Some, None, Option}
 use Rattle.auction.specs.Orders.{ZonePrices, Content}
 use Rattle.auction.specs.Hours.{Entry, Book, list_at, entry_at, Dispatch}
-
--- three lists of orders
-abbrev pub book_of : List Entry → List Entry → List Entry → Book
-book_of first second third = first ∷ second ∷ third ∷ []
 
 -- an order that does not stand need not be content
 abbrev pub AtEase : ZonePrices → Entry → ℕ → Type 0

@@ -1,9 +1,10 @@
 //! The first order of three lists that breaks a rule, by list and number.
 
 ghost use Rattle.auction.specs.Hours.{Takes};
+ghost use Rattle.orders.specs.Books.{book_of};
 ghost use Rattle.orders.specs.Reads.{array_prices};
 ghost use Rattle.sheets.specs.Proposals.{dispatch_of};
-ghost use Rattle.places.specs.Places.{AtEase, FirstOrder, OfOrder, book_of};
+ghost use Rattle.places.specs.Places.{AtEase, FirstOrder, OfOrder};
 
 use crate::lists::{first_discontent, first_impossible};
 use auction::bounds::MOST_ZONES;

@@ -5,12 +5,9 @@ ghost use Rattle.auction.specs.Bounds.{most_orders, most_lines, most_kwh, most_l
 ghost use Rattle.auction.specs.Refusals.{Answered, Always};
 ghost use Rattle.sheets.specs.Proposals.{dispatch_of, prices_of, with_quantity, with_shadow};
 
-use crate::sheet::Sheet;
+use crate::sheet::{LISTS, Sheet};
 use auction::Fault;
 use auction::bounds::{MOST_KWH, MOST_LAMBDA, MOST_LINES, MOST_ORDERS, MOST_SHADOW_PRICE};
-
-/// So many lists the box has.
-pub const LISTS: usize = 3;
 
 impl Sheet {
     /// The sheet of a new hour: nothing is filled in.
@@ -18,9 +15,7 @@ impl Sheet {
         ensures { (((l n : ℕ) → dispatch_of result l n ≡ 0)) × (((prices_of result).lambda ≡ pos 0) × (((l : ℕ) → (prices_of result).shadow l ≡ 0))) }
     {
         Sheet {
-            first: [0; MOST_ORDERS],
-            second: [0; MOST_ORDERS],
-            third: [0; MOST_ORDERS],
+            quantities: [[0; MOST_ORDERS]; LISTS],
             lambda: 0,
             shadow: [0; MOST_LINES],
         }
@@ -32,20 +27,14 @@ impl Sheet {
             (λ _. ((l n : ℕ) → dispatch_of self.new l n ≡ with_quantity (dispatch_of self.old) list number kwh l n) × (prices_of self.new ≡ prices_of self.old))
             (self.new ≡ self.old) }
     {
-        if list >= LISTS {
-            return Err(Fault::Missing);
-        }
-        if number >= MOST_ORDERS {
+        if list >= LISTS || number >= MOST_ORDERS {
             return Err(Fault::Missing);
         }
         if kwh > MOST_KWH {
             return Err(Fault::OutOfRange);
         }
-        match list {
-            0 => self.first[number] = kwh,
-            1 => self.second[number] = kwh,
-            _ => self.third[number] = kwh,
-        }
+        // By index: through `get_mut` it is not found that the widths stay.
+        self.quantities[list][number] = kwh;
         Ok(())
     }
 
@@ -55,10 +44,7 @@ impl Sheet {
             (λ _. ((l n : ℕ) → dispatch_of self.new l n ≡ dispatch_of self.old l n) × (prices_of self.new ≡ record { lambda = lambda; shadow = (prices_of self.old).shadow }))
             (self.new ≡ self.old) }
     {
-        if lambda > MOST_LAMBDA {
-            return Err(Fault::OutOfRange);
-        }
-        if lambda < -MOST_LAMBDA {
+        if lambda.unsigned_abs() > MOST_LAMBDA as u32 {
             return Err(Fault::OutOfRange);
         }
         self.lambda = lambda;

@@ -5,22 +5,17 @@ ghost use Rattle.auction.specs.Bounds.{most_shadow_price};
 ghost use Rattle.sheets.specs.Proposals.{dispatch_of, prices_of};
 
 use crate::sheet::Sheet;
-use auction::bounds::{MOST_LINES, MOST_ORDERS};
 
 impl Sheet {
     /// The quantity of an order, in kWh.
     pub fn quantity(&self, list: usize, number: usize) -> u32
         ensures { result ≡ dispatch_of self.now list number }
     {
-        if number >= MOST_ORDERS {
-            return 0;
-        }
-        match list {
-            0 => self.first[number],
-            1 => self.second[number],
-            2 => self.third[number],
-            _ => 0,
-        }
+        let quantities = self.quantities.get(list);
+        quantities
+            .and_then(|list| list.get(number))
+            .copied()
+            .unwrap_or(0)
     }
 
     /// The reference price.
@@ -34,9 +29,6 @@ impl Sheet {
     pub fn shadow_price(&self, line: usize) -> u32
         ensures { (result ≡ (prices_of self.now).shadow line) × (result ≤ most_shadow_price) }
     {
-        if line >= MOST_LINES {
-            return 0;
-        }
-        self.shadow[line]
+        self.shadow.get(line).copied().unwrap_or(0)
     }
 }

@@ -1,6 +1,7 @@
 use Rattle.std.proofs.Common.{◌≡◌, length}
 use Rattle.sheets.specs.Proposals.{dispatch_of}
-use Rattle.judgement.specs.Verdicts.{book_of, Nets}
+use Rattle.orders.specs.Books.{book_of}
+use Rattle.judgement.specs.Verdicts.{Nets}
 use Rattle.judgement.proofs.injections.net_injections.Given as goal
 
 abbrev pub invariant-loop-zone : goal.invariant-loop-zone

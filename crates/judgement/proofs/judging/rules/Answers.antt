@@ -1,7 +1,7 @@
 use Rattle.std.proofs.Common.{refl, arith}
 use Rattle.std.proofs.lemmas.Bool.Decides.{not_from_Decides}
 use Rattle.sheets.specs.Proposals.{dispatch_of, prices_of}
-use Rattle.judgement.specs.Verdicts.{book_of}
+use Rattle.orders.specs.Books.{book_of}
 use Rattle.judgement.proofs.Filling.{nets_all}
 use Rattle.judgement.proofs.Steps.{quantity_broken, balance_broken, flow_broken, zone_price_broken, binding_broken, contentment_broken, none_broken}
 use Rattle.judgement.proofs.judging.rules.Goals as goal

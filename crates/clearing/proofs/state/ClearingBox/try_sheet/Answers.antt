@@ -1,22 +1,14 @@
-use Rattle.std.proofs.Common.{Ok, Err, refl, w64, SFits, to_z, of_z, rules}
-use Rattle.std.proofs.lemmas.Int.{to_z-of_z}
+use Rattle.std.proofs.Common.{refl}
 use Rattle.ledger.specs.Pages.{page}
-use Rattle.clearing.specs.Views.{kinds_of}
-use Rattle.steps.proofs.Judging.{own_sheet, tried_so, not_tried}
+use Rattle.steps.proofs.Judging.{tried_so, not_tried}
 use Rattle.clearing.proofs.state.ClearingBox.try_sheet.Goals as goal
 
 pub returns-in_err-verdict : goal.returns-in_err-verdict
 returns-in_err-verdict g c =
     let b = c.args.self.now in
-    let refusal = c.in_err-verdict.field-0.0 in
-    let found = own_sheet (kinds_of g.X.OrderList g.Y.OrderList g.W.OrderList) (g.N.Network.grid b.network) c.args.house (g.X.OrderList.entries b.first) (g.Y.OrderList.entries b.second) (g.W.OrderList.entries b.third) b.sheets (page b.ledger) (page c.judged.new.ledger) c.of.result.now c.of.ensures (Err refusal) c.in_err-verdict.ensures in
-    (refl, not_tried (kinds_of g.X.OrderList g.Y.OrderList g.W.OrderList) (g.N.Network.grid b.network) c.args.house (g.X.OrderList.entries b.first) (g.Y.OrderList.entries b.second) (g.W.OrderList.entries b.third) b.sheets (page b.ledger) (page c.judged.new.ledger) refusal c.from_residual.result c.from_residual.ensures.1 found)
+    (refl, not_tried g.X.OrderList g.Y.OrderList g.W.OrderList (g.N.Network.grid b.network) c.args.house b.book b.sheets (page b.ledger) (page c.judged.new.ledger) c.in_err-verdict.field-0.0 c.of-sheet.result.now c.from_residual.result c.from_residual.ensures.1 (c.of-sheet.ensures, c.in_err-verdict.ensures))
 
 pub returns : goal.returns
 returns g c =
     let b = c.args.self.now in
-    let v = c.in_ok-verdict.verdict in
-    let welfare-fits : SFits w64 v.welfare = search rules in
-    let rent-fits : SFits w64 v.rent = search rules in
-    let found = own_sheet (kinds_of g.X.OrderList g.Y.OrderList g.W.OrderList) (g.N.Network.grid b.network) c.args.house (g.X.OrderList.entries b.first) (g.Y.OrderList.entries b.second) (g.W.OrderList.entries b.third) b.sheets (page b.ledger) (page c.judged.new.ledger) c.of.result.now c.of.ensures (Ok v) c.in_ok-verdict.ensures in
-    (refl, tried_so (kinds_of g.X.OrderList g.Y.OrderList g.W.OrderList) (g.N.Network.grid b.network) c.args.house (g.X.OrderList.entries b.first) (g.Y.OrderList.entries b.second) (g.W.OrderList.entries b.third) b.sheets (page b.ledger) (page c.judged.new.ledger) v (to_z w64 (of_z w64 v.welfare)) (to_z w64 (of_z w64 v.rent)) (to_z-of_z w64 v.welfare welfare-fits) (to_z-of_z w64 v.rent rent-fits) found)
+    (refl, tried_so g.X.OrderList g.Y.OrderList g.W.OrderList (g.N.Network.grid b.network) c.args.house b.book b.sheets (page b.ledger) (page c.judged.new.ledger) c.in_ok-verdict.verdict c.of-sheet.result.now c.accepted.result c.accepted.ensures (c.of-sheet.ensures, c.in_ok-verdict.ensures))
