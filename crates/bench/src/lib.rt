@@ -14,8 +14,8 @@ use table::Table;
 fn full_table() -> Option<Table> {
     let mut table = Table::new(MOST_ZONES as u8).ok()?;
     let mut sensitivities = [0i16; MOST_ZONES];
-    for zone in 0..MOST_ZONES {
-        sensitivities[zone] = 7 * zone as i16 - 80;
+    for (zone, sensitivity) in sensitivities.iter_mut().enumerate() {
+        *sensitivity = 7 * zone as i16 - 80;
     }
     for _ in 0..MOST_LINES {
         table.add(1000, sensitivities).ok()?;
@@ -23,58 +23,51 @@ fn full_table() -> Option<Table> {
     Some(table)
 }
 
-fn full_offers() -> Option<Offers> {
-    let mut offers: Offers = Listed::new();
+/// A list with as many orders as it takes, all of one house.
+fn full<L: OrderList + Drop, F: Fn(usize) -> L::Wish>(
+    mut list: L,
+    house: House,
+    wish: F,
+) -> Option<L>
+    requires { F.IsAlwaysCallable wish }
+{
     for number in 0..MOST_ORDERS {
-        let zone = (number % MOST_ZONES) as u8;
-        let wish = ZoneWish {
-            zone,
-            price: 3000,
-            quantity: 1000,
-        };
-        offers.enter(House::Zero, wish, MOST_ZONES, 0).ok()?;
+        list.enter(house, wish(number), MOST_ZONES, 0).ok()?;
     }
-    Some(offers)
+    Some(list)
 }
 
-fn full_bids() -> Option<Bids> {
-    let mut bids: Bids = Listed::new();
-    for number in 0..MOST_ORDERS {
-        let zone = (number % MOST_ZONES) as u8;
-        let wish = ZoneWish {
-            zone,
-            price: 1000,
-            quantity: 1000,
-        };
-        bids.enter(House::One, wish, MOST_ZONES, 0).ok()?;
+/// A wish for 1000 kWh at this price; the zones come in turn.
+fn zone_wish(number: usize, price: u32) -> ZoneWish {
+    ZoneWish {
+        zone: (number % MOST_ZONES) as u8,
+        price,
+        quantity: 1000,
     }
-    Some(bids)
 }
 
-fn full_transfers() -> Option<Transfers> {
-    let mut transfers: Transfers = Listed::new();
-    for number in 0..MOST_ORDERS {
-        let first = (number % MOST_ZONES) as u8;
-        let second = ((number + 1) % MOST_ZONES) as u8;
-        let wish = TransferWish {
-            first,
-            second,
-            price: 0,
-            quantity: 1000,
-        };
-        transfers.enter(House::One, wish, MOST_ZONES, 0).ok()?;
+/// A wish to transfer 1000 kWh from a zone to the next.
+fn transfer_wish(number: usize) -> TransferWish {
+    TransferWish {
+        first: (number % MOST_ZONES) as u8,
+        second: ((number % MOST_ZONES + 1) % MOST_ZONES) as u8,
+        price: 0,
+        quantity: 1000,
     }
-    Some(transfers)
+}
+
+fn full_book() -> Option<Book<Offers, Bids, Transfers>> {
+    Some(Book {
+        first: full(Listed::new(), House::Zero, |number| zone_wish(number, 3000))?,
+        second: full(Listed::new(), House::One, |number| zone_wish(number, 1000))?,
+        third: full(Listed::new(), House::One, |number| transfer_wish(number))?,
+    })
 }
 
 /// At a price of 2000 cents everywhere no order gains by taking anything, so the sheet is accepted, and all rules are gone through.
 fn judged(rounds: u32) -> Option<u32> {
     let table = full_table()?;
-    let book = Book {
-        first: full_offers()?,
-        second: full_bids()?,
-        third: full_transfers()?,
-    };
+    let book = full_book()?;
     let mut sheet = Sheet::empty();
     sheet.fill_lambda(2_000_000).ok()?;
     let mut accepted = 0u32;

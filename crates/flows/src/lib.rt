@@ -5,5 +5,5 @@ mod lines;
 mod numbers;
 mod prices;
 
-pub use lines::{first_overloaded, first_unbound, in_balance};
+pub use lines::{in_balance, lines_bind, lines_within_limits};
 pub use prices::{rent_of, zone_prices};

@@ -9,7 +9,8 @@ ghost use Rattle.auction.specs.Hours.{exact_rent, zone_price};
 ghost use Rattle.sheets.specs.Proposals.{prices_of};
 ghost use Rattle.flows.specs.Flows.{Priced, discount};
 
-use crate::numbers::{plus, times};
+use crate::numbers::{sum_of, times};
+use auction::Broken;
 use auction::bounds::{MOST_ZONE_PRICE, MOST_ZONES};
 use network::Network;
 use sheets::Sheet;
@@ -44,18 +45,17 @@ fn discounts<N: Network>(network: &N, sheet: &Sheet, zone: usize) -> i64
     ensures value { result ≡ Σ (line_count (N.Network.grid network.now)) (discount (N.Network.grid network.now) (prices_of sheet.now) zone) }
     ensures bound { unsigned_abs result ≤ 60000000000 }
 {
-    let mut total: i64 = 0;
-    for line in 0..network.lines() {
-        total = plus(total, discount_at(network, sheet, zone, line));
-    }
-    total
+    sum_of(
+        network.lines(),
+        |line| discount_at(network, sheet, zone, line),
+    )
 }
 
 /// The price of a zone that the network has: lambda without what the lines take off.
 fn price_inside<N: Network>(network: &N, sheet: &Sheet, zone: usize) -> i64
     ensures { result ≡ (prices_of sheet.now).lambda -ℤ Σ (line_count (N.Network.grid network.now)) (discount (N.Network.grid network.now) (prices_of sheet.now) zone) }
 {
-    sheet.lambda() as i64 - discounts(network, sheet, zone)
+    i64::from(sheet.lambda()) - discounts(network, sheet, zone)
 }
 
 /// The price of a zone, and 0 for one that the network lacks.
@@ -71,21 +71,18 @@ fn price_of<N: Network>(network: &N, sheet: &Sheet, zone: usize) -> i64
 fn in_range(price: i64) -> bool
     ensures { Decides result (ZonePriceInRange price) }
 {
-    if price > MOST_ZONE_PRICE as i64 {
-        return false;
-    }
-    price >= -(MOST_ZONE_PRICE as i64)
+    price.unsigned_abs() <= MOST_ZONE_PRICE as u64
 }
 
 /// The prices of all zones, 0 for those that the network lacks; or the first zone whose price is out of range.
-pub fn zone_prices<N: Network>(network: &N, sheet: &Sheet) -> Result<[i32; MOST_ZONES], usize>
+pub fn zone_prices<N: Network>(network: &N, sheet: &Sheet) -> Result<[i32; MOST_ZONES], Broken>
     ensures { Priced (N.Network.grid network.now) (prices_of sheet.now) result }
 {
     let mut prices = [0i32; MOST_ZONES];
     for zone in 0..network.zones() {
         let price = price_of(network, sheet, zone);
         if !in_range(price) {
-            return Err(zone);
+            return Err(Broken::ZonePrice { zone: zone as u8 });
         }
         prices[zone] = price as i32;
     }
@@ -104,9 +101,5 @@ fn line_rent_of<N: Network>(network: &N, sheet: &Sheet, line: usize) -> i64
 pub fn rent_of<N: Network>(network: &N, sheet: &Sheet) -> i64
     ensures { result ≡ exact_rent (N.Network.grid network.now) (prices_of sheet.now) }
 {
-    let mut total: i64 = 0;
-    for line in 0..network.lines() {
-        total = plus(total, line_rent_of(network, sheet, line));
-    }
-    total
+    sum_of(network.lines(), |line| line_rent_of(network, sheet, line))
 }

@@ -36,6 +36,9 @@ module _ (prices : List ℤ) (o : Order) (q : ℕ) where
   paid_bound z total so_far sound may = let all = sound.injections_in_range q z may in let h = so_far.small in omega arith
 
 -- what is paid in one zone fits with room to spare
-pub one_zone_small : (pay price fed : ℤ) (q : ℕ) → pay ≡ price *ℤ fed → nat_abs price ≤ 2 ^ 31 → nat_abs fed ≤ 2 * q → q ≤ 10000000 → nat_abs pay ≤ 2 ^ 61
+pub one_zone_small : (pay price fed : ℤ) (q : ℕ) → pay ≡ price *ℤ fed → nat_abs price ≤ 2 ^ 31 → nat_abs fed ≤ 2 * q → q ≤ 10000000 → nat_abs pay ≤ 2 ^ 60
 one_zone_small pay price fed q is small feeds modest =
-    subst (λ (x : ℤ). nat_abs x ≤ 2 ^ 61) (sym is) (let h = product_small price fed (2 ^ 31) (2 * q) small feeds in omega arith)
+    subst (λ (x : ℤ). nat_abs x ≤ 2 ^ 60) (sym is) (let h = product_small price fed (2 ^ 31) (2 * q) small feeds in omega arith)
+
+pub modest_proceeds : (total : ℤ) (q : ℕ) → nat_abs total ≤ 2 ^ 32 * q → q ≤ 10000000 → nat_abs total ≤ 2 ^ 60
+modest_proceeds total q h k = omega arith

@@ -1,10 +1,10 @@
 -- A running sum over the orders of a list, and how large it can get.
-use Rattle.std.proofs.Common.{◌≡◌, ℕ, zero, suc, ◌+◌, ◌-◌, ◌*◌, ◌≤◌, Bool, true, false, cond, List, length, ℤ, pos, ◌+ℤ◌, nat_abs, MatchBool, sym, refl, ap, ◌∙◌, subst, le_trans, mul-le-mul_left, mul-add, add-one, arith}
+use Rattle.std.proofs.Common.{◌≡◌, ℕ, zero, suc, ◌+◌, ◌-◌, ◌*◌, ◌^◌, ◌≤◌, Bool, true, false, cond, List, length, ℤ, pos, ◌+ℤ◌, nat_abs, MatchBool, sym, refl, ap, ◌∙◌, subst, le_trans, mul-le-mul, mul-le-mul_left, mul-add, add-one, arith, w64, SFits}
 use borrow.Author.Differences.{ints}
 use Rattle.auction.specs.Sums.{Σ, Σℕ}
 use Rattle.auction.specs.Orders.{Order, Possible, Sound}
 use Rattle.auction.specs.Hours.{Entry, Takes}
-use Rattle.orders.specs.Reads.{entry, Answers, standing_largest, standing_kwh}
+use Rattle.orders.specs.Reads.{entry, standing_largest, standing_kwh}
 use Rattle.judgement.specs.Parts.{first_sum, first_kwh, Term}
 
 -- a sum of fewer natural numbers is not larger
@@ -73,14 +73,19 @@ module _ (es : List Entry) (qs : ℕ → ℕ) (f : Entry → ℕ → ℤ) (k : �
   pub running_end : (i : ℕ) (total : ℤ) → Running es qs f k i total → i ≡ length es → total ≡ first_sum es qs f (length es)
   running_end i total so_far all = so_far.is ∙ ap (first_sum es qs f) all
 
--- a query's answer as a term: the order takes its quantity, so the answer is the one meant
-pub term_of : (es : List Entry) (qs : ℕ → ℕ) (f : Entry → ℕ → ℤ) (k n q : ℕ) (answer result : ℤ) → q ≡ qs n → Takes (entry es n) (qs n) → Answers (entry es n).order q (f (entry es n) q) answer → Sound (entry es n).order → (Possible (entry es n).order (qs n) → nat_abs (f (entry es n) (qs n)) ≤ k * qs n) → result ≡ answer → Term es qs f k n result
-term_of es qs f k n q answer result same takes answers sound small is =
-    let may = possible_of_takes (entry es n) (qs n) takes in
-    let meant : result ≡ f (entry es n) (qs n) = is ∙ answers.possible (subst (Possible (entry es n).order) (sym same) may) ∙ ap (f (entry es n)) same in
-    record { is = meant; small = subst (λ (x : ℤ). nat_abs x ≤ k * qs n) (sym meant) (small may); modest = le_trans may sound.largest_in_range }
-
 -- one of the injections is not larger than all together
 pub one_injection : (o : Order) (q z : ℕ) → Sound o → Possible o q → nat_abs (o.injection q z) ≤ 2 * q
 unfolding Σℕ
 one_injection o q z sound may = let all = sound.injections_in_range q (suc z) may in omega arith
+
+-- what an order has at its quantity, as a term
+pub term_at : (es : List Entry) (qs : ℕ → ℕ) (f : Entry → ℕ → ℤ) (k n q : ℕ) (term : ℤ) → q ≡ qs n → Takes (entry es n) (qs n) → Sound (entry es n).order → term ≡ f (entry es n) q → nat_abs term ≤ k * q → Term es qs f k n term
+term_at es qs f k n q term same takes sound is small =
+    record { is = is ∙ ap (f (entry es n)) same; small = subst (λ (m : ℕ). nat_abs term ≤ k * m) same small; modest = le_trans (possible_of_takes (entry es n) (qs n) takes) sound.largest_in_range }
+
+-- so much for each of so many kWh leaves room in 64 bits
+pub rates_fit : (k m : ℕ) → k ≤ 2 ^ 32 → m ≤ 30000000 → k * m ≤ 2 ^ 60
+rates_fit k m h l = let all : k * m ≤ 2 ^ 32 * 30000000 = mul-le-mul h l in omega arith
+
+pub two_fit : (a b : ℤ) → nat_abs a ≤ 2 ^ 60 → nat_abs b ≤ 2 ^ 60 → SFits w64 (a +ℤ b)
+two_fit a b h k = omega (arith, ints)

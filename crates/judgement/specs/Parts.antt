@@ -3,7 +3,7 @@ use Rattle.std.specs.Prelude.{◌≡◌, ℕ, ◌*◌, ◌<◌, ◌≤◌, cond,
 use Rattle.auction.specs.Bounds.{most_kwh}
 use Rattle.auction.specs.Sums.{Σ, Σℕ}
 use Rattle.auction.specs.Orders.{ZonePrices, proceeds}
-use Rattle.auction.specs.Hours.{Entry, Takes}
+use Rattle.auction.specs.Hours.{Book, Dispatch, Entry, Takes, entry_at, list_at}
 use Rattle.orders.specs.Reads.{entry, standing_largest}
 pub use Rattle.flows.specs.Firsts.{FirstFailing}
 pub use Rattle.places.specs.Places.{AtEase}
@@ -22,6 +22,10 @@ TakeBefore es qs i = (n : ℕ) → n < i → Takes (entry es n) (qs n)
 
 abbrev pub AllTake : List Entry → (ℕ → ℕ) → Type 0
 AllTake es qs = TakeBefore es qs (length es)
+
+-- each order of a book takes a quantity that is possible for it
+abbrev pub Taken : Book → Dispatch → Type 0
+Taken b d = (l n : ℕ) → n < length (list_at b l) → Takes (entry_at b l n) (d l n)
 
 -- the kWh that the standing ones of the first i orders may take at most
 unfoldable pub first_kwh : List Entry → ℕ → ℕ

@@ -1,10 +1,10 @@
 //! The judgement of a sheet, for any network and any three lists of orders.
 #![tactic(auto)]
 
-mod injections;
 mod judging;
-mod lists;
-mod numbers;
+mod measures;
+mod money;
+mod sums;
 mod verdict;
 
 pub use judging::judge;

@@ -1,7 +1,7 @@
-//! The first order of three lists that takes what it may not, or is not content, whatever its kind.
+//! The first order of a book that takes what it may not, or is not content, whatever its kind.
 #![tactic(auto)]
 
-mod lists;
 mod places;
+mod rules;
 
-pub use places::{discontent, impossible};
+pub use places::{orders_content, quantities_possible};

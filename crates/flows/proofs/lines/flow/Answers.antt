@@ -1,26 +1,22 @@
-use Rattle.std.proofs.Common.{◌*◌, ◌^◌, get_or, pos, ◌*ℤ◌, ap, ◌∙◌, arith, w32, SFits, rules}
+use Rattle.std.proofs.Common.{get_or, pos, ◌*ℤ◌, ◌∙◌, arith, rules, w64}
 use borrow.Author.Differences.{ints}
 use Rattle.std.proofs.lemmas.Int.{to_z-of_z}
 use Rattle.auction.specs.Grids.{sensitivity_at}
 use Rattle.flows.specs.Flows.{array_flow}
-use Rattle.flows.proofs.Summing.{summed_start, summed_next, summed_bound, summed_all}
+use Rattle.flows.proofs.Summing.{Σℕ_even}
 use Rattle.flows.proofs.lines.flow.Goals as goal
 
-pub loop-zone-init : goal.loop-zone-init
-loop-zone-init g c = summed_start _ (1000 * 2 ^ 31)
+pub sum_of-requires-clause-modest : goal.sum_of-requires-clause-modest
+sum_of-requires-clause-modest g c = ((λ _. 2147483648000), (let e = Σℕ_even 2147483648000 24 in omega arith), λ i r h gives. search rules)
 
-pub plus-total-requires : goal.plus-total-requires
-plus-total-requires g c =
-    let small = summed_bound _ (1000 * 2 ^ 31) c.loop-zone.zone 24 _ c.loop-zone.invariant (omega arith) in
-    (omega (arith, ints), omega (arith, ints))
-
-pub loop-zone-preserved : goal.loop-zone-preserved
-loop-zone-preserved g c =
-    let there : SFits w32 (get_or c.args.nets.now c.loop-zone.zone (pos 0)) = search rules in
-    summed_next _ (1000 * 2 ^ 31) c.loop-zone.zone _ c.share.result _ c.loop-zone.invariant (c.share.ensures.value ∙ ap (λ x. sensitivity_at (g.N.Network.grid c.args.network.now) c.args.line c.loop-zone.zone *ℤ x) (to_z-of_z w32 _ there)) c.share.ensures.bound (omega (arith, ints))
-
-pub returns : goal.returns
+pub returns-clause-value : goal.returns-clause-value
 unfolding array_flow
-returns g c =
-    let small = summed_bound _ (1000 * 2 ^ 31) c.loop-zone.zone 24 _ c.loop-zone.invariant (omega arith) in
-    record { value = summed_all _ (1000 * 2 ^ 31) c.loop-zone.zone 24 _ c.loop-zone.invariant (omega arith); bound = small }
+returns-clause-value g c =
+    to_z-of_z w64 c.sum_of.result (record { sfits = c.sum_of.type_inv })
+    ∙ c.sum_of.ensures.value (λ z. sensitivity_at (g.N.Network.grid c.args.network.now) c.args.line z *ℤ get_or c.args.nets.now z (pos 0)) (λ i r h gives. search rules)
+
+pub returns-clause-bound : goal.returns-clause-bound
+returns-clause-bound g c =
+    let e = Σℕ_even 2147483648000 24 in
+    let small = c.sum_of.ensures.bound (λ _. 2147483648000) (λ i r h gives. search rules) in
+    omega (arith, ints)

@@ -1,24 +1,16 @@
-use Rattle.std.proofs.Common.{arith}
+use Rattle.std.proofs.Common.{arith, rules}
 use borrow.Author.Differences.{ints}
-use Rattle.flows.proofs.Summing.{summed_start, summed_next, summed_bound, summed_all}
+use Rattle.flows.proofs.Summing.{Σℕ_even}
 use Rattle.flows.proofs.prices.discounts.Goals as goal
 
-pub loop-line-init : goal.loop-line-init
-loop-line-init g c = summed_start _ 1000000000
-
-pub plus-total-requires : goal.plus-total-requires
-plus-total-requires g c =
+pub sum_of-requires-clause-modest : goal.sum_of-requires-clause-modest
+sum_of-requires-clause-modest g c =
     let few = g.met.N.Network.fewlines c.args.network.now in
-    let small = summed_bound _ 1000000000 c.loop-line.line 60 _ c.loop-line.invariant (omega arith) in
-    (omega (arith, ints), omega (arith, ints))
+    ((λ _. 1000000000), (let e = Σℕ_even 1000000000 c.lines.result in omega arith), λ i r h gives. search rules)
 
-pub loop-line-preserved : goal.loop-line-preserved
-loop-line-preserved g c = summed_next _ 1000000000 c.loop-line.line _ c.discount_at.result _ c.loop-line.invariant c.discount_at.ensures.value c.discount_at.ensures.bound (omega (arith, ints))
-
-pub returns : goal.returns
-returns g c =
+pub returns-clause-bound : goal.returns-clause-bound
+returns-clause-bound g c =
     let few = g.met.N.Network.fewlines c.args.network.now in
-    record {
-      value = summed_all _ 1000000000 c.loop-line.line _ _ c.loop-line.invariant (omega arith);
-      bound = summed_bound _ 1000000000 c.loop-line.line 60 _ c.loop-line.invariant (omega arith);
-    }
+    let e = Σℕ_even 1000000000 c.lines.result in
+    let small = c.sum_of.ensures.bound (λ _. 1000000000) (λ i r h gives. search rules) in
+    omega (arith, ints)

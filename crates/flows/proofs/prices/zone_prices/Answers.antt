@@ -21,7 +21,7 @@ loop-zone-preserved g c =
 pub returns-then-not-in_range : goal.returns-then-not-in_range
 returns-then-not-in_range g c =
     let wide = to_z-of_z w64 c.price_of-price.result (record { sfits = c.price_of-price.type_inv }) in
-    (omega arith, c.loop-zone.invariant.in_range, λ ranged. not_from_Decides c.in_range.result c.in_range.ensures c.if-not-in_range.true (subst ZonePriceInRange (sym (wide ∙ c.price_of-price.ensures)) ranged))
+    (c.loop-zone.zone, refl, (omega arith, c.loop-zone.invariant.in_range, λ ranged. not_from_Decides c.in_range.result c.in_range.ensures c.if-not-in_range.true (subst ZonePriceInRange (sym (wide ∙ c.price_of-price.ensures)) ranged)))
 
 pub returns : goal.returns
 returns g c = priced_all _ _ c.loop-zone.zone c.loop-zone.prices c.loop-zone.invariant (omega arith)

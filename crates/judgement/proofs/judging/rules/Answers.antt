@@ -1,80 +1,54 @@
-use Rattle.std.proofs.Common.{refl, arith}
+use Rattle.std.proofs.Common.{refl}
 use Rattle.std.proofs.lemmas.Bool.Decides.{not_from_Decides}
+use Rattle.std.proofs.lemmas.Result.{err_from_is_err_and}
+use Rattle.orders.specs.Books.{booked}
 use Rattle.sheets.specs.Proposals.{dispatch_of, prices_of}
-use Rattle.orders.specs.Books.{book_of}
 use Rattle.judgement.proofs.Filling.{nets_all}
-use Rattle.judgement.proofs.Steps.{quantity_broken, balance_broken, flow_broken, zone_price_broken, binding_broken, contentment_broken, none_broken}
+use Rattle.judgement.proofs.Steps.{balance_broken, flow_broken, zone_price_broken, binding_broken, contentment_broken, none_broken}
 use Rattle.judgement.proofs.judging.rules.Goals as goal
-
-pub net_injections-nets-requires : goal.net_injections-nets-requires
-net_injections-nets-requires g c =
-    let few = g.met.N.Network.fewzones c.args.network.now in
-    (omega arith, (c.in_default.ensures 0, (c.in_default.ensures 1, c.in_default.ensures 2)))
-
-pub returns-in-Some : goal.returns-in-Some
-returns-in-Some g c =
-    let grid = g.N.Network.grid c.args.network.now in
-    let book = book_of (g.X.OrderList.entries c.args.first.now) (g.Y.OrderList.entries c.args.second.now) (g.W.OrderList.entries c.args.third.now) in
-    let d = dispatch_of c.args.sheet.now in
-    let p = prices_of c.args.sheet.now in
-    quantity_broken grid book d p c.in-Some.list c.in-Some.number c.in-Some.ensures
 
 pub returns-then-not-in_balance : goal.returns-then-not-in_balance
 returns-then-not-in_balance g c =
     let grid = g.N.Network.grid c.args.network.now in
-    let book = book_of (g.X.OrderList.entries c.args.first.now) (g.Y.OrderList.entries c.args.second.now) (g.W.OrderList.entries c.args.third.now) in
-    let d = dispatch_of c.args.sheet.now in
-    let p = prices_of c.args.sheet.now in
-    let few = g.met.N.Network.fewzones c.args.network.now in
-    let found = nets_all book d c.net_injections-nets.result c.zones.result grid.zones c.net_injections-nets.ensures c.zones.ensures in
-    balance_broken grid book d p few c.net_injections-nets.result found c.in_default.ensures (not_from_Decides c.in_balance.result c.in_balance.ensures c.if-not-in_balance.true)
+    let book = booked g.X.OrderList g.Y.OrderList g.W.OrderList c.args.book.now in
+    let found = nets_all book (dispatch_of c.args.sheet.now) c.net_injections-nets.result c.zones.result grid.zones c.net_injections-nets.ensures c.zones.ensures in
+    balance_broken grid book (dispatch_of c.args.sheet.now) (prices_of c.args.sheet.now) (g.met.N.Network.fewzones c.args.network.now) c.net_injections-nets.result found c.in_ok-quantities_possible.ensures (not_from_Decides c.in_balance.result c.in_balance.ensures c.if-not-in_balance.true)
 
-pub returns-in-Some-first_overloaded : goal.returns-in-Some-first_overloaded
-returns-in-Some-first_overloaded g c =
+pub returns-in_err-lines_within_limits : goal.returns-in_err-lines_within_limits
+returns-in_err-lines_within_limits g c =
     let grid = g.N.Network.grid c.args.network.now in
-    let book = book_of (g.X.OrderList.entries c.args.first.now) (g.Y.OrderList.entries c.args.second.now) (g.W.OrderList.entries c.args.third.now) in
-    let d = dispatch_of c.args.sheet.now in
-    let p = prices_of c.args.sheet.now in
-    let few = g.met.N.Network.fewzones c.args.network.now in
-    let found = nets_all book d c.net_injections-nets.result c.zones.result grid.zones c.net_injections-nets.ensures c.zones.ensures in
-    flow_broken grid book d p few c.net_injections-nets.result found c.in_default.ensures (c.if-not-in_balance.ensures.0 refl) c.in-Some-first_overloaded.line c.in-Some-first_overloaded.ensures
+    let book = booked g.X.OrderList g.Y.OrderList g.W.OrderList c.args.book.now in
+    let found = nets_all book (dispatch_of c.args.sheet.now) c.net_injections-nets.result c.zones.result grid.zones c.net_injections-nets.ensures c.zones.ensures in
+    let exit = err_from_is_err_and c.from_residual-in_err-lines_within_limits.result c.from_residual-in_err-lines_within_limits.ensures.1 in
+    rw (exit.1, exit.2) (flow_broken grid book (dispatch_of c.args.sheet.now) (prices_of c.args.sheet.now) (g.met.N.Network.fewzones c.args.network.now) c.net_injections-nets.result found c.in_ok-quantities_possible.ensures (c.if-not-in_balance.ensures.0 refl) c.in_err-lines_within_limits.field-0.0 c.in_err-lines_within_limits.ensures)
 
-pub returns-in-Err : goal.returns-in-Err
-returns-in-Err g c =
+pub returns-in_err-prices : goal.returns-in_err-prices
+returns-in_err-prices g c =
     let grid = g.N.Network.grid c.args.network.now in
-    let book = book_of (g.X.OrderList.entries c.args.first.now) (g.Y.OrderList.entries c.args.second.now) (g.W.OrderList.entries c.args.third.now) in
-    let d = dispatch_of c.args.sheet.now in
-    let p = prices_of c.args.sheet.now in
-    let few = g.met.N.Network.fewzones c.args.network.now in
-    let found = nets_all book d c.net_injections-nets.result c.zones.result grid.zones c.net_injections-nets.ensures c.zones.ensures in
-    zone_price_broken grid book d p few c.net_injections-nets.result found c.in_default.ensures (c.if-not-in_balance.ensures.0 refl) c.in_default-first_overloaded.ensures c.in-Err.zone c.in-Err.ensures
+    let book = booked g.X.OrderList g.Y.OrderList g.W.OrderList c.args.book.now in
+    let found = nets_all book (dispatch_of c.args.sheet.now) c.net_injections-nets.result c.zones.result grid.zones c.net_injections-nets.ensures c.zones.ensures in
+    let exit = err_from_is_err_and c.from_residual-in_err-prices.result c.from_residual-in_err-prices.ensures.1 in
+    rw (exit.1, exit.2) (zone_price_broken grid book (dispatch_of c.args.sheet.now) (prices_of c.args.sheet.now) (g.met.N.Network.fewzones c.args.network.now) c.net_injections-nets.result found c.in_ok-quantities_possible.ensures (c.if-not-in_balance.ensures.0 refl) c.in_ok-lines_within_limits.ensures c.in_err-prices.field-0.0 c.in_err-prices.ensures)
 
-pub returns-in-Some-first_unbound : goal.returns-in-Some-first_unbound
-returns-in-Some-first_unbound g c =
+pub returns-in_err-lines_bind : goal.returns-in_err-lines_bind
+returns-in_err-lines_bind g c =
     let grid = g.N.Network.grid c.args.network.now in
-    let book = book_of (g.X.OrderList.entries c.args.first.now) (g.Y.OrderList.entries c.args.second.now) (g.W.OrderList.entries c.args.third.now) in
-    let d = dispatch_of c.args.sheet.now in
-    let p = prices_of c.args.sheet.now in
-    let few = g.met.N.Network.fewzones c.args.network.now in
-    let found = nets_all book d c.net_injections-nets.result c.zones.result grid.zones c.net_injections-nets.ensures c.zones.ensures in
-    binding_broken grid book d p few c.net_injections-nets.result found c.in_default.ensures (c.if-not-in_balance.ensures.0 refl) c.in_default-first_overloaded.ensures c.in-Ok.prices c.in-Ok.ensures c.in-Some-first_unbound.line c.in-Some-first_unbound.ensures
+    let book = booked g.X.OrderList g.Y.OrderList g.W.OrderList c.args.book.now in
+    let found = nets_all book (dispatch_of c.args.sheet.now) c.net_injections-nets.result c.zones.result grid.zones c.net_injections-nets.ensures c.zones.ensures in
+    let exit = err_from_is_err_and c.from_residual-in_err-lines_bind.result c.from_residual-in_err-lines_bind.ensures.1 in
+    rw (exit.1, exit.2) (binding_broken grid book (dispatch_of c.args.sheet.now) (prices_of c.args.sheet.now) (g.met.N.Network.fewzones c.args.network.now) c.net_injections-nets.result found c.in_ok-quantities_possible.ensures (c.if-not-in_balance.ensures.0 refl) c.in_ok-lines_within_limits.ensures c.in_ok-prices.prices c.in_ok-prices.ensures c.in_err-lines_bind.field-0.0 c.in_err-lines_bind.ensures)
 
-pub returns-in-Some-discontent : goal.returns-in-Some-discontent
-returns-in-Some-discontent g c =
+pub returns-in_err-orders_content : goal.returns-in_err-orders_content
+returns-in_err-orders_content g c =
     let grid = g.N.Network.grid c.args.network.now in
-    let book = book_of (g.X.OrderList.entries c.args.first.now) (g.Y.OrderList.entries c.args.second.now) (g.W.OrderList.entries c.args.third.now) in
-    let d = dispatch_of c.args.sheet.now in
-    let p = prices_of c.args.sheet.now in
-    let few = g.met.N.Network.fewzones c.args.network.now in
-    let found = nets_all book d c.net_injections-nets.result c.zones.result grid.zones c.net_injections-nets.ensures c.zones.ensures in
-    contentment_broken grid book d p few c.net_injections-nets.result found c.in_default.ensures (c.if-not-in_balance.ensures.0 refl) c.in_default-first_overloaded.ensures c.in-Ok.prices c.in-Ok.ensures c.in_default-first_unbound.ensures c.in-Some-discontent.list c.in-Some-discontent.number c.in-Some-discontent.ensures
+    let book = booked g.X.OrderList g.Y.OrderList g.W.OrderList c.args.book.now in
+    let found = nets_all book (dispatch_of c.args.sheet.now) c.net_injections-nets.result c.zones.result grid.zones c.net_injections-nets.ensures c.zones.ensures in
+    let exit = err_from_is_err_and c.from_residual-in_err-orders_content.result c.from_residual-in_err-orders_content.ensures.1 in
+    rw (exit.1, exit.2) (contentment_broken grid book (dispatch_of c.args.sheet.now) (prices_of c.args.sheet.now) (g.met.N.Network.fewzones c.args.network.now) c.net_injections-nets.result found c.in_ok-quantities_possible.ensures (c.if-not-in_balance.ensures.0 refl) c.in_ok-lines_within_limits.ensures c.in_ok-prices.prices c.in_ok-prices.ensures c.in_ok-lines_bind.ensures c.in_err-orders_content.field-0.0 c.in_err-orders_content.ensures)
 
 pub returns : goal.returns
 returns g c =
     let grid = g.N.Network.grid c.args.network.now in
-    let book = book_of (g.X.OrderList.entries c.args.first.now) (g.Y.OrderList.entries c.args.second.now) (g.W.OrderList.entries c.args.third.now) in
-    let d = dispatch_of c.args.sheet.now in
-    let p = prices_of c.args.sheet.now in
-    let few = g.met.N.Network.fewzones c.args.network.now in
-    let found = nets_all book d c.net_injections-nets.result c.zones.result grid.zones c.net_injections-nets.ensures c.zones.ensures in
-    none_broken grid book d p few c.net_injections-nets.result found c.in_default.ensures (c.if-not-in_balance.ensures.0 refl) c.in_default-first_overloaded.ensures c.in-Ok.prices c.in-Ok.ensures c.in_default-first_unbound.ensures c.in_default-discontent.ensures
+    let book = booked g.X.OrderList g.Y.OrderList g.W.OrderList c.args.book.now in
+    let found = nets_all book (dispatch_of c.args.sheet.now) c.net_injections-nets.result c.zones.result grid.zones c.net_injections-nets.ensures c.zones.ensures in
+    none_broken grid book (dispatch_of c.args.sheet.now) (prices_of c.args.sheet.now) (g.met.N.Network.fewzones c.args.network.now) c.net_injections-nets.result found c.in_ok-quantities_possible.ensures (c.if-not-in_balance.ensures.0 refl) c.in_ok-lines_within_limits.ensures c.in_ok-prices.prices c.in_ok-prices.ensures c.in_ok-lines_bind.ensures c.in_ok-orders_content.ensures
