@@ -1,15 +1,19 @@
 //! Offers, bids and transfers, and a list for each.
 #![tactic(auto)]
 
-mod bid;
+mod buying;
 mod linear;
-mod offer;
+mod selling;
+mod side;
+mod terms;
 mod transfer;
 
-pub use bid::Bid;
-pub use linear::{ZoneWish, fed, zone_price, zone_row};
+pub use buying::{Bid, Buying};
+pub use linear::{ZoneWish, fed, zone_price};
 use listed::Listed;
-pub use offer::Offer;
+pub use selling::{Offer, Selling};
+pub use side::{Side, ZoneOrder};
+pub use terms::Terms;
 pub use transfer::{Transfer, TransferWish};
 
 pub type Offers = Listed<Offer>;

@@ -1,7 +1,6 @@
 //! Transfers: energy fed into one zone and taken from another.
 
-ghost use Rattle.std.specs.Prelude.{◌<◌, ◌≤◌};
-ghost use Rattle.auction.specs.Bounds.{most_price, most_kwh};
+use super::Terms;
 
 mod kind;
 
@@ -12,9 +11,5 @@ pub use kind::TransferWish;
 pub struct Transfer {
     first: u8,
     second: u8,
-    price: u32,
-    quantity: u32,
-    ghost cheap: { price ≤ most_price },
-    ghost some: { 0 < quantity },
-    ghost modest: { quantity ≤ most_kwh },
+    terms: Terms,
 }

@@ -43,10 +43,7 @@ impl<K: Kind> Listed<K> {
         ensures { MatchOption result (NoneEntered (entries_by K.Kind.meant self.now.rows) number)
             (λ order. (number < length (entries_by K.Kind.meant self.now.rows)) × (K.Kind.meaning order ≡ (entry (entries_by K.Kind.meant self.now.rows) number).order)) }
     {
-        match self.row(number) {
-            Some(row) => K::of_row(&row),
-            None => None,
-        }
+        K::of_row(&self.row(number)?)
     }
 }
 
@@ -74,52 +71,33 @@ impl<K: Kind> OrderList for Listed<K> {
     }
 
     fn house(&self, number: usize) -> House {
-        match self.row(number) {
-            Some(row) => row.house,
-            None => House::Zero,
-        }
+        self.row(number).map_or(House::Zero, |row| row.house)
     }
 
     fn standing(&self, number: usize) -> bool {
-        match self.row(number) {
-            Some(row) => row.standing,
-            None => false,
-        }
+        self.row(number).is_some_and(|row| row.standing)
     }
 
     fn largest(&self, number: usize) -> u32 {
-        match self.order(number) {
-            Some(order) => order.largest(),
-            None => 0,
-        }
+        self.order(number).map_or(0, |order| order.largest())
     }
 
     fn last_zone(&self, number: usize) -> u8 {
-        match self.order(number) {
-            Some(order) => order.last_zone(),
-            None => 0,
-        }
+        self.order(number).map_or(0, |order| order.last_zone())
     }
 
     fn worth(&self, number: usize, quantity: u32) -> i64 {
-        match self.order(number) {
-            Some(order) => order.worth(quantity),
-            None => 0,
-        }
+        self.order(number).map_or(0, |order| order.worth(quantity))
     }
 
     fn injection(&self, number: usize, quantity: u32, zone: usize) -> i64 {
-        match self.order(number) {
-            Some(order) => order.injection(quantity, zone),
-            None => 0,
-        }
+        self.order(number)
+            .map_or(0, |order| order.injection(quantity, zone))
     }
 
     fn content(&self, number: usize, quantity: u32, prices: &[i32; MOST_ZONES]) -> bool {
-        match self.order(number) {
-            Some(order) => order.content(quantity, prices),
-            None => false,
-        }
+        self.order(number)
+            .is_some_and(|order| order.content(quantity, prices))
     }
 
     fn standing_kwh(&self) -> u32 {
@@ -133,10 +111,8 @@ impl<K: Kind> OrderList for Listed<K> {
         zones: usize,
         elsewhere: u32,
     ) -> Result<(), Fault> {
-        match K::row(house, wish, zones) {
-            Ok(row) => self.rows.push(row, elsewhere),
-            Err(fault) => Err(fault),
-        }
+        let row = K::row(house, wish, zones)?;
+        self.rows.push(row, elsewhere)
     }
 
     fn withdraw(&mut self, number: usize) {

@@ -35,9 +35,7 @@ impl Rows {
             (λ _. used self.new ≡ used self.old ++ entered row ∷ [])
             (used self.new ≡ used self.old) }
     {
-        if !row.in_range() {
-            return Err(Fault::OutOfRange);
-        }
+        let row = row.checked()?;
         if self.count >= MOST_ORDERS {
             return Err(Fault::NoPlace);
         }

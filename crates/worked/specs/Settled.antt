@@ -4,9 +4,10 @@ use Rattle.auction.specs.declared.House.TheVariants.{Zero, One}
 use Rattle.auction.specs.declared.Broken.TheVariants.{Contentment}
 use Rattle.kinds.specs.declared.linear.ZoneWish.{ZoneWish}
 use Rattle.kinds.specs.declared.transfer.kind.TransferWish.{TransferWish}
-use Rattle.kinds.specs.contracts.offer.kind.OfferKind.TheImpl.{ghosts as offers}
-use Rattle.kinds.specs.contracts.bid.kind.BidKind.TheImpl.{ghosts as bids}
-use Rattle.kinds.specs.contracts.transfer.kind.TransferKind.TheImpl.{ghosts as transfers}
+use Rattle.kinds.specs.Wishes.{order_wished, zone_found, terms_fit}
+use Rattle.kinds.specs.contracts.selling.SellingSide.TheImpl.{ghosts as offer}
+use Rattle.kinds.specs.contracts.buying.BuyingSide.TheImpl.{ghosts as bid}
+use Rattle.kinds.specs.contracts.transfer.kind.TransferKind.TheImpl.{ghosts as transfer}
 use Rattle.history.specs.declared.calls.Wish.TheVariants.{First, Second}
 use Rattle.history.specs.declared.calls.Filling.TheVariants.{Quantity, Lambda, ShadowPrice}
 use Rattle.history.specs.declared.calls.Call.{Call}
@@ -21,9 +22,9 @@ use Rattle.worked.specs.Table.{two_zones}
 -- offers, bids and transfers, as their lists mean them
 abbrev pub kinds : Kinds ZoneWish ZoneWish TransferWish
 kinds = record {
-  order = by_list offers.wished bids.wished transfers.wished;
-  exists = by_list offers.found bids.found transfers.found;
-  ranged = by_list offers.fitting bids.fitting transfers.fitting;
+  order = by_list (order_wished offer.meant) (order_wished bid.meant) transfer.wished;
+  exists = by_list zone_found zone_found transfer.found;
+  ranged = by_list terms_fit terms_fit transfer.fitting;
 }
 
 abbrev pub wish : (zone price quantity : ℕ) → ZoneWish

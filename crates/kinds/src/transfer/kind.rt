@@ -7,6 +7,7 @@ ghost use Rattle.kinds.specs.Kinds.{transfer, TwoZones};
 ghost use Rattle.kinds.specs.Slopes.{transfer_slope};
 ghost use Rattle.kinds.specs.Sounds.{transfer_sound};
 
+use super::super::Terms;
 use super::super::linear::{content_at, fed, money, order_price, zone_price};
 use super::Transfer;
 use auction::bounds::MOST_ZONES;
@@ -15,7 +16,7 @@ use listed::Kind;
 use rows::Row;
 
 /// The zone that a transfer feeds and the one from which it takes, its price in cents per MWh and its largest quantity in kWh.
-#[derive(Clone, Copy)]
+#[derive(Clone, Copy, PartialEq, Eq, Debug)]
 pub struct TransferWish {
     pub first: u8,
     pub second: u8,
@@ -26,17 +27,17 @@ pub struct TransferWish {
 impl Transfer {
     /// What a kWh gains at these zone prices.
     fn slope(&self, prices: &[i32; MOST_ZONES]) -> i64
-        ensures { result ≡ transfer_slope prices.now self.now.first self.now.second self.now.price }
+        ensures { result ≡ transfer_slope prices.now self.now.first self.now.second self.now.terms.price }
     {
         let paid = zone_price(prices, self.first) - zone_price(prices, self.second);
-        order_price(self.price) + paid
+        order_price(self.terms.price) + paid
     }
 }
 
 impl Kind for Transfer {
     type Wish = TransferWish;
 
-    ghost meaning = { λ o. transfer o.first o.second o.price o.quantity };
+    ghost meaning = { λ o. transfer o.first o.second o.terms.price o.terms.quantity };
 
     ghost meant = { transfer };
 
@@ -51,70 +52,53 @@ impl Kind for Transfer {
     ghost sized = { λ _ _ _ _. refl };
 
     fn of_row(row: &Row) -> Option<Transfer>
-        ensures { MatchOption result (Ranged row.now → ⊥) (λ o. Ranged row.now × (o.first ≡ row.now.first) × (o.second ≡ row.now.second) × (o.price ≡ row.now.price) × (o.quantity ≡ row.now.quantity)) }
+        ensures { MatchOption result (Ranged row.now → ⊥) (λ o. Ranged row.now × (o.first ≡ row.now.first) × (o.second ≡ row.now.second) × (o.terms.price ≡ row.now.price) × (o.terms.quantity ≡ row.now.quantity)) }
     {
-        if !row.in_range() {
-            return None;
-        }
         Some(Transfer {
             first: row.first,
             second: row.second,
-            price: row.price,
-            quantity: row.quantity,
+            terms: Terms::of_row(row)?,
         })
     }
 
     fn row(house: House, wish: TransferWish, zones: usize) -> Result<Row, Fault> {
-        if wish.first as usize >= zones {
+        if wish.first.max(wish.second) as usize >= zones || wish.first == wish.second {
             return Err(Fault::Missing);
         }
-        if wish.second as usize >= zones {
-            return Err(Fault::Missing);
-        }
-        if wish.first == wish.second {
-            return Err(Fault::Missing);
-        }
-        let row = Row {
+        Row {
             house,
             standing: true,
             first: wish.first,
             second: wish.second,
             price: wish.price,
             quantity: wish.quantity,
-        };
-        if !row.in_range() {
-            return Err(Fault::OutOfRange);
         }
-        Ok(row)
+        .checked()
     }
 
     fn largest(&self) -> u32 {
-        self.quantity
+        self.terms.quantity
     }
 
     fn last_zone(&self) -> u8 {
-        if self.first < self.second {
-            self.second
-        } else {
-            self.first
-        }
+        self.first.max(self.second)
     }
 
     fn worth(&self, quantity: u32) -> i64 {
-        if quantity > self.quantity {
+        if quantity > self.terms.quantity {
             return 0;
         }
-        money(self.price, quantity)
+        money(self.terms, quantity)
     }
 
     fn injection(&self, quantity: u32, zone: usize) -> i64 {
-        if quantity > self.quantity {
+        if quantity > self.terms.quantity {
             return 0;
         }
         fed(quantity, self.first, zone) - fed(quantity, self.second, zone)
     }
 
     fn content(&self, quantity: u32, prices: &[i32; MOST_ZONES]) -> bool {
-        content_at(self.quantity, quantity, self.slope(prices))
+        content_at(self.terms.quantity, quantity, self.slope(prices))
     }
 }

@@ -9,5 +9,6 @@ use Rattle.kinds.proofs.transfer.kind.TransferKind.content.Goals as goal
 
 pub returns : goal.returns
 returns c =
-    content_by (array_prices c.args.prices.now) (transfer c.args.self.now.first c.args.self.now.second c.args.self.now.price c.args.self.now.quantity) (transfer_slope c.args.prices.now c.args.self.now.first c.args.self.now.second c.args.self.now.price)
-    (transfer_gain c.args.prices.now c.told-prices c.args.self.now.first c.args.self.now.second c.args.self.now.price c.args.self.now.quantity) c.args.quantity c.content_at.result _ c.content_at.ensures (omega (arith, ints))
+    let order = c.args.self.now in
+    content_by (array_prices c.args.prices.now) (transfer order.first order.second order.terms.price order.terms.quantity) (transfer_slope c.args.prices.now order.first order.second order.terms.price)
+    (transfer_gain c.args.prices.now c.told-prices order.first order.second order.terms.price order.terms.quantity) c.args.quantity c.content_at.result _ c.content_at.ensures (omega (arith, ints))
