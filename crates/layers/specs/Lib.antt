@@ -1,4 +1,5 @@
 pub mod Lowered
 pub mod Watched
+pub mod Layers
 pub mod Holding
 pub mod Piled

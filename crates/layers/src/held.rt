@@ -4,10 +4,11 @@ ghost use Rattle.std.specs.Prelude.{◌≡◌, ℕ, ◌-◌, ◌<◌, ◌≤◌,
 ghost use Rattle.auction.specs.Grids.{line_count, limit_at, sensitivity_at};
 ghost use Rattle.auction.specs.Bounds.{most_lines, most_kwh, most_sensitivity};
 ghost use Rattle.network.specs.Bounds.{OfZones, NumbersInRange};
-ghost use Rattle.network.specs.Rows.{line_of, lines_of};
-ghost use Rattle.layers.specs.Watched.{watched_grid, PlaceLeft};
+ghost use Rattle.network.specs.Rows.{line_of, lines_in};
+ghost use Rattle.layers.specs.Watched.{PlaceLeft};
+ghost use Rattle.layers.specs.Layers.{held_grid, monitored_grid};
 ghost use Rattle.auction.specs.Refusals.{Always, Answered};
-ghost use Rattle.layers.specs.Lowered.{lowered_grid, Holds, HoldsNothing};
+ghost use Rattle.layers.specs.Lowered.{Holds, HoldsNothing};
 ghost use Rattle.layers.specs.Holding.{held_few_lines, held_limited, held_sensitive};
 
 use super::amounts::Amounts;
@@ -29,14 +30,7 @@ impl Amounts {
     fn lower(&self, line: usize, limit: u32) -> u32
         ensures { result ≡ limit - slice_index self.now.kwh line }
     {
-        if line >= MOST_LINES {
-            return limit;
-        }
-        let held = self.kwh[line];
-        if held > limit {
-            return 0;
-        }
-        limit - held
+        limit.saturating_sub(self.kwh.get(line).copied().unwrap_or(0))
     }
 
     fn hold(&mut self, line: usize, kwh: u32)
@@ -59,7 +53,7 @@ impl<N: Network> HeldBack<N> {
     pub fn new(below: N) -> HeldBack<N>
         ensures kept { result.below ≡ below }
         ensures zeros { result.amounts.kwh ≡ replicate most_lines 0 }
-        ensures nothing { HoldsNothing (N.Network.grid below) (lowered_grid (N.Network.grid result.below) result.amounts.kwh) }
+        ensures nothing { HoldsNothing (N.Network.grid below) (held_grid N.Network.grid result) }
     {
         let amounts = Amounts::none();
         HeldBack { below, amounts }
@@ -68,16 +62,16 @@ impl<N: Network> HeldBack<N> {
     /// The network below, of which only the limits are lowered.
     pub fn below(&self) -> &N
         ensures below { result.now ≡ self.now.below }
-        ensures lines { line_count (lowered_grid (N.Network.grid self.now.below) self.now.amounts.kwh) ≡ line_count (N.Network.grid result.now) }
-        ensures limits { (l : ℕ) → limit_at (lowered_grid (N.Network.grid self.now.below) self.now.amounts.kwh) l ≡ limit_at (N.Network.grid result.now) l - slice_index self.now.amounts.kwh l }
-        ensures sensitivities { (l z : ℕ) → sensitivity_at (lowered_grid (N.Network.grid self.now.below) self.now.amounts.kwh) l z ≡ sensitivity_at (N.Network.grid result.now) l z }
+        ensures lines { line_count (held_grid N.Network.grid self.now) ≡ line_count (N.Network.grid result.now) }
+        ensures limits { (l : ℕ) → limit_at (held_grid N.Network.grid self.now) l ≡ limit_at (N.Network.grid result.now) l - slice_index self.now.amounts.kwh l }
+        ensures sensitivities { (l z : ℕ) → sensitivity_at (held_grid N.Network.grid self.now) l z ≡ sensitivity_at (N.Network.grid result.now) l z }
     {
         &self.below
     }
 
     /// Holds so much back of a line from now on: refused where there is no such line, else where the amount is out of range.
     pub fn hold_back(&mut self, line: usize, kwh: u32) -> Result<(), Fault>
-        ensures { Answered result (line < line_count (N.Network.grid self.old.below)) (kwh ≤ most_kwh) Always (λ _. (self.new.below ≡ self.old.below) × Holds (N.Network.grid self.old.below) (lowered_grid (N.Network.grid self.old.below) self.old.amounts.kwh) (lowered_grid (N.Network.grid self.new.below) self.new.amounts.kwh) line kwh × (self.new.amounts.kwh ≡ slice_set self.old.amounts.kwh line kwh)) (self.new ≡ self.old) }
+        ensures { Answered result (line < line_count (N.Network.grid self.old.below)) (kwh ≤ most_kwh) Always (λ _. (self.new.below ≡ self.old.below) × Holds (N.Network.grid self.old.below) (held_grid N.Network.grid self.old) (held_grid N.Network.grid self.new) line kwh × (self.new.amounts.kwh ≡ slice_set self.old.amounts.kwh line kwh)) (self.new ≡ self.old) }
     {
         if line >= self.below.lines() {
             return Err(Fault::Missing);
@@ -93,7 +87,7 @@ impl<N: Network> HeldBack<N> {
         requires { line < most_lines }
         ensures below { self.new.below ≡ self.old.below }
         ensures sets { self.new.amounts.kwh ≡ slice_set self.old.amounts.kwh line kwh }
-        ensures holds { Holds (N.Network.grid self.old.below) (lowered_grid (N.Network.grid self.old.below) self.old.amounts.kwh) (lowered_grid (N.Network.grid self.new.below) self.new.amounts.kwh) line kwh }
+        ensures holds { Holds (N.Network.grid self.old.below) (held_grid N.Network.grid self.old) (held_grid N.Network.grid self.new) line kwh }
     {
         self.amounts.hold(line, kwh);
     }
@@ -102,7 +96,7 @@ impl<N: Network> HeldBack<N> {
 impl<N: Network> HeldBack<Monitored<N>> {
     /// Watches a further line below, under the questions of that layer; what is held back stays.
     pub fn watch(&mut self, limit: u32, sensitivities: [i16; MOST_ZONES]) -> Result<(), Fault>
-        ensures watched { Answered result (OfZones (N.Network.grid self.old.below.below).zones sensitivities) (NumbersInRange limit sensitivities) (PlaceLeft (N.Network.grid self.old.below.below) (lines_of self.old.below.watched.count self.old.below.watched.rows)) (λ _. (self.new.below.below ≡ self.old.below.below) × ((watched_grid (N.Network.grid self.new.below.below) (lines_of self.new.below.watched.count self.new.below.watched.rows)).lines ≡ (watched_grid (N.Network.grid self.old.below.below) (lines_of self.old.below.watched.count self.old.below.watched.rows)).lines ++ line_of limit sensitivities ∷ [])) ((self.new.below.below ≡ self.old.below.below) × (self.new.below.watched ≡ self.old.below.watched)) }
+        ensures watched { Answered result (OfZones (N.Network.grid self.old.below.below).zones sensitivities) (NumbersInRange limit sensitivities) (PlaceLeft (N.Network.grid self.old.below.below) (lines_in self.old.below.watched)) (λ _. (self.new.below.below ≡ self.old.below.below) × ((monitored_grid N.Network.grid self.new.below).lines ≡ (monitored_grid N.Network.grid self.old.below).lines ++ line_of limit sensitivities ∷ [])) ((self.new.below.below ≡ self.old.below.below) × (self.new.below.watched ≡ self.old.below.watched)) }
         ensures held { self.new.amounts ≡ self.old.amounts }
     {
         self.below.watch(limit, sensitivities)
@@ -110,7 +104,7 @@ impl<N: Network> HeldBack<Monitored<N>> {
 }
 
 impl<N: Network> Network for HeldBack<N> {
-    ghost grid = { λ h. lowered_grid (N.Network.grid h.below) h.amounts.kwh };
+    ghost grid = { held_grid N.Network.grid };
 
     ghost zoned = { λ h. N.Network.zoned h.below };
 

@@ -4,9 +4,10 @@ ghost use Rattle.std.specs.Prelude.{◌≡◌, ◌+◌, ◌≤◌, min, ltb, [],
 ghost use Rattle.auction.specs.Grids.{no_line, line_count};
 ghost use Rattle.auction.specs.Bounds.{most_lines, most_kwh, most_sensitivity};
 ghost use Rattle.network.specs.Bounds.{OfZones, NumbersInRange};
-ghost use Rattle.auction.specs.Refusals.{Answered};
-ghost use Rattle.network.specs.Rows.{row_line, line_of, lines_in, SameLine, lines_of};
-ghost use Rattle.layers.specs.Watched.{watched_grid, PlaceLeft};
+ghost use Rattle.auction.specs.Refusals.{Always, Answered};
+ghost use Rattle.network.specs.Rows.{row_line, line_of, lines_in};
+ghost use Rattle.layers.specs.Watched.{PlaceLeft};
+ghost use Rattle.layers.specs.Layers.{monitored_grid};
 ghost use Rattle.layers.specs.Piled.{watched_few_lines, watched_limited, watched_sensitive};
 
 use auction::Fault;
@@ -25,64 +26,54 @@ impl<N: Network> Monitored<N> {
     pub fn new(below: N) -> Monitored<N>
         ensures kept { result.below ≡ below }
         ensures none { lines_in result.watched ≡ [] }
-        ensures same { (watched_grid (N.Network.grid result.below) (lines_in result.watched)).lines ≡ (N.Network.grid below).lines }
+        ensures same { (monitored_grid N.Network.grid result).lines ≡ (N.Network.grid below).lines }
     {
-        let watched = RowList::new();
+        let watched = RowList::new(Row::blank());
         Monitored { below, watched }
     }
 
     /// Watches a further line, after the others: refused where it has a sensitivity for a zone that is not there, else where a number is out of range, else
     /// where no place is left.
     pub fn watch(&mut self, limit: u32, sensitivities: [i16; MOST_ZONES]) -> Result<(), Fault>
-        ensures { Answered result (OfZones (N.Network.grid self.old.below).zones sensitivities) (NumbersInRange limit sensitivities) (PlaceLeft (N.Network.grid self.old.below) (lines_in self.old.watched)) (λ _. (self.new.below ≡ self.old.below) × ((watched_grid (N.Network.grid self.new.below) (lines_in self.new.watched)).lines ≡ (watched_grid (N.Network.grid self.old.below) (lines_in self.old.watched)).lines ++ line_of limit sensitivities ∷ [])) ((self.new.below ≡ self.old.below) × (self.new.watched ≡ self.old.watched)) }
+        ensures { Answered result (OfZones (N.Network.grid self.old.below).zones sensitivities) (NumbersInRange limit sensitivities) (PlaceLeft (N.Network.grid self.old.below) (lines_in self.old.watched)) (λ _. (self.new.below ≡ self.old.below) × ((monitored_grid N.Network.grid self.new).lines ≡ (monitored_grid N.Network.grid self.old).lines ++ line_of limit sensitivities ∷ [])) ((self.new.below ≡ self.old.below) × (self.new.watched ≡ self.old.watched)) }
     {
         let row = Row::new(self.below.zones(), limit, sensitivities)?;
-        if !self.append(row) {
-            return Err(Fault::NoPlace);
-        }
-        Ok(())
+        self.append(row)
     }
 
-    /// Adds a row after the others, and says whether there was a place for it.
-    fn append(&mut self, row: Row) -> bool
-        ensures place { Decides result (PlaceLeft (N.Network.grid self.old.below) (lines_in self.old.watched)) }
+    /// Adds a row after the others: refused where no place is left.
+    fn append(&mut self, row: Row) -> Result<(), Fault>
+        ensures lines { Answered result Always Always (PlaceLeft (N.Network.grid self.old.below) (lines_in self.old.watched)) (λ _. (monitored_grid N.Network.grid self.new).lines ≡ (monitored_grid N.Network.grid self.old).lines ++ row_line row ∷ []) (self.new.watched ≡ self.old.watched) }
         ensures below { self.new.below ≡ self.old.below }
-        ensures lines { MatchBool result ((watched_grid (N.Network.grid self.new.below) (lines_in self.new.watched)).lines ≡ (watched_grid (N.Network.grid self.old.below) (lines_in self.old.watched)).lines ++ row_line row ∷ []) (self.new.watched ≡ self.old.watched) }
     {
         if self.lines() >= MOST_LINES {
-            return false;
+            return Err(Fault::NoPlace);
         }
-        if !self.watched.push(row) {
-            return false;
-        }
-        true
+        self.watched.push(row)
     }
 
     /// The network below, whose lines come first.
     pub fn below(&self) -> &N
         ensures below { result.now ≡ self.now.below }
-        ensures lines { line_count (watched_grid (N.Network.grid self.now.below) (lines_in self.now.watched)) ≡ min most_lines (line_count (N.Network.grid result.now) + length (lines_in self.now.watched)) }
+        ensures lines { line_count (monitored_grid N.Network.grid self.now) ≡ min most_lines (line_count (N.Network.grid result.now) + length (lines_in self.now.watched)) }
     {
         &self.below
     }
 
-    /// The row of a line that is watched here, blank where there is none, and nothing for a line below.
+    /// The row of a line that is watched here; any other line is one below, or none at all.
     fn row(&self, line: usize) -> Option<Row>
-        ensures { MatchOption result (slice_index_or (watched_grid (N.Network.grid self.now.below) (lines_in self.now.watched)).lines line no_line ≡ slice_index_or (N.Network.grid self.now.below).lines line no_line) (λ row. SameLine (row_line row) (slice_index_or (watched_grid (N.Network.grid self.now.below) (lines_in self.now.watched)).lines line no_line)) }
+        ensures { MatchOption result (slice_index_or (monitored_grid N.Network.grid self.now).lines line no_line ≡ slice_index_or (N.Network.grid self.now.below).lines line no_line) (λ row. row_line row ≡ slice_index_or (monitored_grid N.Network.grid self.now).lines line no_line) }
     {
         let below = self.below.lines();
-        if line < below {
+        if line < below || line >= MOST_LINES {
             return None;
         }
-        if line >= MOST_LINES {
-            return Some(Row::blank());
-        }
-        Some(self.watched.at(line - below))
+        self.watched.get(line - below)
     }
 }
 
 impl<N: Network> Network for Monitored<N> {
-    ghost grid = { λ m. watched_grid (N.Network.grid m.below) (lines_in m.watched) };
+    ghost grid = { monitored_grid N.Network.grid };
 
     ghost zoned = { λ m. N.Network.zoned m.below };
 
@@ -99,12 +90,7 @@ impl<N: Network> Network for Monitored<N> {
     }
 
     fn lines(&self) -> usize {
-        let lines = self.below().lines() + self.watched.len();
-        if lines > MOST_LINES {
-            MOST_LINES
-        } else {
-            lines
-        }
+        (self.below().lines() + self.watched.len()).min(MOST_LINES)
     }
 
     fn sensitivity(&self, line: usize, zone: usize) -> i16 {

@@ -1,6 +1,6 @@
--- The lines of a list of rows: how many there are, which stands where, and one more.
-use Rattle.std.proofs.Common.{◌≡◌, ℕ, zero, suc, ◌+◌, ◌<◌, ◌≤◌, Bool, true, false, cond, List, [], ◌∷◌, ◌++◌, map, length, get_or, take, set, ℤ, pos, nat_abs, ap, ◌∙◌, arith}
-use Rattle.std.proofs.lemmas.List.{length-map, length-take-le, get_or_past, get_or-map, get_or-take, take_more_set, map_push}
+-- The lines of a list of rows: how many there are, and which stands where.
+use Rattle.std.proofs.Common.{◌≡◌, ℕ, zero, suc, ◌≤◌, Bool, true, false, cond, List, [], ◌∷◌, map, length, get_or, take, ℤ, pos, nat_abs, ◌∙◌, Option, MatchOption, slice_get, subst, arith}
+use Rattle.std.proofs.lemmas.List.{length-map, length-take-le}
 use Rattle.auction.specs.Grids.{Line, no_line}
 use Rattle.auction.specs.Bounds.{most_kwh, most_sensitivity}
 use Rattle.network.specs.declared.row.Row.{Row}
@@ -9,17 +9,14 @@ use Rattle.network.specs.Rows.{row_line, lines_of}
 pub lines_length : (count : ℕ) (rows : List Row) → count ≤ length rows → length (lines_of count rows) ≡ count
 lines_length count rows few = length-map (take count rows) row_line ∙ length-take-le count rows few
 
-pub line_read : (count : ℕ) (rows : List Row) (i : ℕ) (d : Row) → count ≤ length rows → i < count → get_or (lines_of count rows) i no_line ≡ row_line (get_or rows i d)
-line_read count rows i d few within =
-    get_or-map row_line (take count rows) i d no_line (omega (arith, length-take-le count rows few)) ∙ ap row_line (get_or-take count rows i d within)
+line_at : (P : Line → Type 0) {Found : Row → Type 0} (rows : List Row) (i : ℕ) → MatchOption (slice_get rows i) (P no_line) Found → ((row : Row) → Found row → P (row_line row)) → P (get_or (map row_line rows) i no_line)
+line_at P [] i holds each = holds
+line_at P (row ∷ rows) zero holds each = each row holds
+line_at P (row ∷ rows) (suc i) holds each = line_at P rows i holds each
 
-pub line_past : (count : ℕ) (rows : List Row) (i : ℕ) → count ≤ length rows → count ≤ i → get_or (lines_of count rows) i no_line ≡ no_line
-line_past count rows i few past = get_or_past (lines_of count rows) i no_line (omega (arith, lines_length count rows few))
-
--- n is the count, as a program has it in a variable
-pub lines_push : (count n : ℕ) (rows : List Row) (row : Row) → n ≡ count → n < length rows → lines_of (n + 1) (set rows n row) ≡ lines_of count rows ++ row_line row ∷ []
-lines_push count n rows row same place =
-    ap (map row_line) (take_more_set rows n row place) ∙ map_push row_line (take n rows) row ∙ ap (λ k. lines_of k rows ++ row_line row ∷ []) same
+-- what holds of the row that is found at an index, or of no line where none is found, holds of the line there
+pub line_found : (P : Line → Type 0) {Found : Row → Type 0} (rows : List Row) (i : ℕ) (found : Option Row) → found ≡ slice_get rows i → MatchOption found (P no_line) Found → ((row : Row) → Found row → P (row_line row)) → P (get_or (map row_line rows) i no_line)
+line_found P {Found} rows i found same holds each = line_at P rows i (subst (λ (row : Option Row). MatchOption row (P no_line) Found) same holds) each
 
 -- what holds of every row's line, and of none, holds wherever a line is read
 pub every_line : (P : Line → Type 0) → P no_line → ((row : Row) → P (row_line row)) → (rows : List Row) (l : ℕ) → P (get_or (map row_line rows) l no_line)

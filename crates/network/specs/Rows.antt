@@ -1,7 +1,7 @@
 -- The lines that rows describe.
-use Rattle.std.specs.Prelude.{◌≡◌, ℕ, List, map, take, ℤ, pos, slice_index_or}
+use Rattle.std.specs.Prelude.{ℕ, List, map, take, ℤ, pos, slice_index_or}
 use Rattle.auction.specs.Grids.{Line}
-use Rattle.network.specs.declared.list.RowList.{RowList}
+use Rattle.filled.specs.declared.list.Filled.{Filled}
 use Rattle.network.specs.declared.row.Row.{Row}
 
 abbrev pub line_of : ℕ → List ℤ → Line
@@ -14,9 +14,5 @@ row_line row = line_of row.limit row.sensitivities
 abbrev pub lines_of : ℕ → List Row → List Line
 lines_of count rows = map row_line (take count rows)
 
-abbrev pub lines_in : {places : ℕ} → RowList places → List Line
+abbrev pub lines_in : {places : ℕ} → Filled Row places → List Line
 lines_in list = lines_of list.count list.rows
-
--- the same limit, and for each zone the same sensitivity
-abbrev pub SameLine : Line → Line → Type 0
-SameLine one other = (one.limit ≡ other.limit) × ((z : ℕ) → one.sensitivity z ≡ other.sensitivity z)

@@ -7,7 +7,6 @@ ghost use Rattle.auction.specs.Grids.{Grid, line_count, limit_at, sensitivity_at
 ghost use Rattle.auction.specs.Bounds.{most_zones, most_lines, most_sensitivity};
 
 mod list;
-mod listed;
 mod row;
 mod rows;
 

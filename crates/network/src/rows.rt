@@ -14,27 +14,17 @@ use auction::bounds::{MOST_KWH, MOST_SENSITIVITY, MOST_ZONES};
 fn of_zones(zones: usize, sensitivities: &[i16; MOST_ZONES]) -> bool
     ensures { Decides result (OfZones zones sensitivities.now) }
 {
-    for zone in 0..MOST_ZONES {
-        if zone >= zones && sensitivities[zone] != 0 {
-            return false;
-        }
-    }
-    true
+    sensitivities
+        .iter()
+        .skip(zones)
+        .all(|sensitivity| *sensitivity == 0)
 }
 
 fn in_range(sensitivities: &[i16; MOST_ZONES]) -> bool
     ensures { Decides result (SensitivitiesInRange sensitivities.now) }
 {
-    for zone in 0..MOST_ZONES {
-        let sensitivity = sensitivities[zone];
-        if sensitivity > MOST_SENSITIVITY {
-            return false;
-        }
-        if sensitivity < -MOST_SENSITIVITY {
-            return false;
-        }
-    }
-    true
+    sensitivities.iter().all(|sensitivity| sensitivity.unsigned_abs()
+        <= MOST_SENSITIVITY.unsigned_abs())
 }
 
 impl Row {
@@ -55,10 +45,7 @@ impl Row {
         if !of_zones(zones, &sensitivities) {
             return Err(Fault::Missing);
         }
-        if limit > MOST_KWH {
-            return Err(Fault::OutOfRange);
-        }
-        if !in_range(&sensitivities) {
+        if limit > MOST_KWH || !in_range(&sensitivities) {
             return Err(Fault::OutOfRange);
         }
         Ok(Row {
@@ -78,9 +65,6 @@ impl Row {
     pub fn sensitivity(&self, zone: usize) -> i16
         ensures { result ≡ (row_line self.now).sensitivity zone }
     {
-        if zone >= MOST_ZONES {
-            return 0;
-        }
-        self.sensitivities[zone]
+        self.sensitivities.get(zone).copied().unwrap_or(0)
     }
 }

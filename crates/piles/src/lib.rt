@@ -25,15 +25,15 @@ mod tests {
     fn shape<N: Network>(rt: &impl Abort, net: &N, zones: usize, lines: usize, limits: &[u32; 9]) {
         assert_eq!(rt; net.zones(), zones);
         assert_eq!(rt; net.lines(), lines);
-        for line in 0..9 {
-            assert_eq!(rt; net.limit(line), limits[line]);
+        for (line, limit) in limits.iter().enumerate() {
+            assert_eq!(rt; net.limit(line), *limit);
         }
     }
 
     // For zones 0 to 4.
     fn row<N: Network>(rt: &impl Abort, net: &N, line: usize, expected: &[i16; 5]) {
-        for zone in 0..5 {
-            assert_eq!(rt; net.sensitivity(line, zone), expected[zone]);
+        for (zone, sensitivity) in expected.iter().enumerate() {
+            assert_eq!(rt; net.sensitivity(line, zone), *sensitivity);
         }
     }
 

@@ -31,10 +31,10 @@ impl Network for Table {
         if zone >= self.zones {
             return 0;
         }
-        self.rows.at(line).sensitivity(zone)
+        self.rows.get(line).map_or(0, |row| row.sensitivity(zone))
     }
 
     fn limit(&self, line: usize) -> u32 {
-        self.rows.at(line).limit()
+        self.rows.get(line).map_or(0, |row| row.limit())
     }
 }

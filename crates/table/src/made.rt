@@ -24,7 +24,7 @@ impl Table {
         if zones > MOST_ZONES {
             return Err(Fault::Missing);
         }
-        let rows = RowList::new();
+        let rows = RowList::new(Row::blank());
         Ok(Table { zones, rows })
     }
 
@@ -34,9 +34,6 @@ impl Table {
         ensures { Answered result (OfZones (table_grid self.old).zones sensitivities) (NumbersInRange limit sensitivities) (length (table_grid self.old).lines < most_lines) (λ _. ((table_grid self.new).zones ≡ (table_grid self.old).zones) × ((table_grid self.new).lines ≡ (table_grid self.old).lines ++ line_of limit sensitivities ∷ [])) ((self.new.zones ≡ self.old.zones) × (self.new.rows ≡ self.old.rows)) }
     {
         let row = Row::new(self.zones, limit, sensitivities)?;
-        if !self.rows.push(row) {
-            return Err(Fault::NoPlace);
-        }
-        Ok(())
+        self.rows.push(row)
     }
 }

@@ -12,13 +12,6 @@ use Rattle.tree.specs.Trees.{passes, share}
 abbrev pub Rooted : List Link → Type 0
 Rooted links = (i : ℕ) → (slice_index_or links i no_link).parent ≤ i
 
-pub rooted_take : (n : ℕ) (links : List Link) → Rooted links → Rooted (take n links)
-rooted_take n links rooted i =
-    ⊎_elim
-    (λ below. rw (get_or-take n links i no_link below) (rooted i))
-    (λ past. rw (get_or_past (take n links) i no_link (omega (arith, length-take n links))) (omega arith))
-    (cases_lt i n)
-
 -- a zone descends from no larger one
 pub descends_le : (links : List Link) → Rooted links → (c z : ℕ) → Descends links c z → c ≤ z
 descends_le links rooted c z here = omega arith

@@ -1,8 +1,8 @@
 -- The grid of a tree is the network that the tree means.
-use Rattle.std.specs.Prelude.{◌≡◌, ℕ, ◌+◌, ◌-◌, ◌*◌, ◌/◌, ◌%◌, ◌<◌, ◌≤◌, true, false, List, length, get_or, take, set, pos, neg_ℤ, ◌≢◌, nat_eq, nat_lt, slice_index_or, slice_set, unsigned_abs, refl}
-use Rattle.std.proofs.Common.{sym, ap, subst, ◌∙◌, ⊎_elim, arith, eq-eqb}
+use Rattle.std.specs.Prelude.{◌≡◌, ℕ, ◌+◌, ◌-◌, ◌*◌, ◌/◌, ◌%◌, ◌<◌, ◌≤◌, true, false, List, length, get_or, pos, neg_ℤ, ◌≢◌, nat_eq, nat_lt, slice_index_or, unsigned_abs, refl}
+use Rattle.std.proofs.Common.{ap, ◌∙◌, ⊎_elim, arith, eq-eqb}
 use Rattle.std.proofs.lemmas.List.FromFn.{length-map-range_with_len, get_or-map-range_with_len}
-use Rattle.std.proofs.lemmas.List.{get_or_past, get_or-take, get_or-set_same, get_or-set_other, length-take-le}
+use Rattle.std.proofs.lemmas.List.{get_or_past, length-take-le}
 use Rattle.std.proofs.lemmas.Bool.{cases_lt, cases_eq}
 use Rattle.std.proofs.lemmas.Bool.Decides.{nat_tests}
 use Rattle.std.proofs.lemmas.Int.{ints}
@@ -11,8 +11,8 @@ use Rattle.auction.specs.Grids.{Line, no_line, line_count, limit_at, sensitivity
 use Rattle.tree.specs.declared.grown.Link.{Link}
 use Rattle.tree.specs.declared.grown.Tree.{Tree}
 use Rattle.tree.specs.Links.{most_links, no_link, zone_count, Descends}
-use Rattle.tree.specs.Trees.{links_of, share, line_to_parent, line_to_child, tree_line, tree_lines, tree_grid, TreeShaped}
-use Rattle.tree.specs.Descent.{Rooted, rooted_take, share_below, share_elsewhere, share_in_range}
+use Rattle.tree.specs.Trees.{links_of, share, line_to_parent, line_to_child, tree_line, tree_lines, tree_grid, TreeShaped, Shaped}
+use Rattle.tree.specs.Descent.{Rooted, share_below, share_elsewhere, share_in_range}
 
 pub lines_is : (links : List Link) → line_count (tree_grid links) ≡ 2 * length links
 unfolding tree_lines
@@ -106,8 +106,8 @@ tree_shaped links rooted =
       elsewhere_to_child = λ c z p w v d. share_to_child links c (2 * (c - 1) + 1) z v (omega arith) (omega arith) (omega arith) ∙ ap neg_ℤ (share_elsewhere links c z d);
     }
 
-pub link_count : (t : Tree) → length (links_of t) ≡ t.count
-link_count t = length-take-le t.count t.links (omega arith)
+pub link_count : (t : Tree) → length (links_of t) ≡ t.links.count
+link_count t = length-take-le t.links.count t.links.rows (omega arith)
 
 -- how many zones and lines a tree has
 pub tree_zoned : (t : Tree) → 1 ≤ (tree_grid (links_of t)).zones
@@ -120,40 +120,18 @@ pub tree_few_lines : (t : Tree) → line_count (tree_grid (links_of t)) ≤ most
 tree_few_lines t = omega (arith, lines_is (links_of t), link_count t)
 
 pub rooted : (t : Tree) → Rooted (links_of t)
-rooted t = rooted_take t.count t.links t.parents
+rooted t = t.parents
 
-pub shaped_tree : (t : Tree) → TreeShaped (links_of t) (tree_grid (links_of t))
+pub shaped_tree : (t : Tree) → Shaped t
 shaped_tree t = tree_shaped (links_of t) (rooted t)
-
--- the link that is read in the array is that of the tree
-pub link_read : (t : Tree) (i : ℕ) → i < t.count → slice_index_or (links_of t) i no_link ≡ slice_index_or t.links i no_link
-link_read t i within = get_or-take t.count t.links i no_link within
-
--- what holds of each link still does when one is written for which it holds
-pub each_written : (P : ℕ → Link → Type 0) (links : List Link) (i : ℕ) (new : Link) → ((k : ℕ) → P k (slice_index_or links k no_link)) → P i new → i < length links → (k : ℕ) → P k (slice_index_or (slice_set links i new) k no_link)
-each_written P links i new each here within k =
-    ⊎_elim
-    (λ e. let at : P i (slice_index_or (slice_set links i new) i no_link) = rw (get_or-set_same links i new no_link within) here in subst (λ (j : ℕ). P j (slice_index_or (slice_set links i new) j no_link)) (sym e) at)
-    (λ other. rw (get_or-set_other links i k new no_link other) (each k))
-    (cases_eq k i)
 
 pub limit_in_range : (t : Tree) (l : ℕ) → limit_at (tree_grid (links_of t)) l ≤ most_kwh
 limit_in_range t l =
     ⊎_elim
     (λ within.
-    let read = link_read t (l / 2) (omega (arith, link_count t)) in
     ⊎_elim
-    (λ even. rw (limit_to_parent (links_of t) l within even, read) (t.limited_to_parent (l / 2)))
-    (λ odd. rw (limit_to_child (links_of t) l within odd, read) (t.limited_to_child (l / 2)))
+    (λ even. rw (limit_to_parent (links_of t) l within even) (t.limited_to_parent (l / 2)))
+    (λ odd. rw (limit_to_child (links_of t) l within odd) (t.limited_to_child (l / 2)))
     (cases_eq (l % 2) 0))
     (λ past. omega (arith, ap (λ (line : Line). line.limit) (line_past (links_of t) l past)))
     (cases_lt l (2 * length (links_of t)))
-
--- the tree with one more link
-pub rooted_written : (t : Tree) (new : Link) → new.parent ≤ t.count → t.count < most_links → Rooted (slice_set t.links t.count new)
-rooted_written t new smaller place = each_written (λ i link. link.parent ≤ i) t.links t.count new t.parents smaller (omega arith)
-
-pub shaped_written : (t : Tree) (new : Link) → new.parent ≤ t.count → t.count < most_links → TreeShaped (take (t.count + 1) (slice_set t.links t.count new)) (tree_grid (take (t.count + 1) (slice_set t.links t.count new)))
-shaped_written t new smaller place =
-    let written = set t.links t.count new in
-    tree_shaped (take (t.count + 1) written) (rooted_take (t.count + 1) written (rooted_written t new smaller place))

@@ -1,13 +1,14 @@
 -- The grid of a tree of zones.
-use Rattle.std.specs.Prelude.{◌≡◌, ℕ, zero, suc, ◌+◌, ◌-◌, ◌*◌, ◌/◌, ◌%◌, ◌<◌, Bool, true, false, cond, List, map, length, take, ℤ, pos, neg_ℤ, ◌==◌}
+use Rattle.std.specs.Prelude.{◌≡◌, ℕ, zero, suc, ◌+◌, ◌-◌, ◌*◌, ◌/◌, ◌%◌, ◌<◌, Bool, true, false, cond, List, map, length, ℤ, pos, neg_ℤ, ◌==◌}
 use Rattle.std.specs.List.{range_with_len}
 use Rattle.auction.specs.Grids.{Line, Grid, line_count, limit_at, sensitivity_at}
+use Rattle.filled.specs.Lists.{kept}
 use Rattle.tree.specs.declared.grown.Link.{Link}
 use Rattle.tree.specs.declared.grown.Tree.{Tree}
 use Rattle.tree.specs.Links.{link_of, zone_count, Descends}
 
 abbrev pub links_of : Tree → List Link
-links_of t = take t.count t.links
+links_of t = kept t.links
 
 -- does the way from zone z to zone 0 pass c? At most so many steps are made.
 unfoldable pub passes : ℕ → List Link → ℕ → ℕ → Bool
@@ -43,3 +44,7 @@ pub record TreeShaped (links : List Link) (g : Grid) : Type 0 where
   pub below_to_child : (c z : ℕ) → 0 < c → c < zone_count links → z < zone_count links → Descends links c z → sensitivity_at g (2 * (c - 1) + 1) z ≡ neg_ℤ (pos 1000)
   pub elsewhere_to_parent : (c z : ℕ) → 0 < c → c < zone_count links → z < zone_count links → (Descends links c z → ⊥) → sensitivity_at g (2 * (c - 1)) z ≡ pos 0
   pub elsewhere_to_child : (c z : ℕ) → 0 < c → c < zone_count links → z < zone_count links → (Descends links c z → ⊥) → sensitivity_at g (2 * (c - 1) + 1) z ≡ pos 0
+
+-- a tree's grid is the network that the tree means
+abbrev pub Shaped : Tree → Type 0
+Shaped t = TreeShaped (links_of t) (tree_grid (links_of t))

@@ -1,9 +1,10 @@
 //! The network that a tree is.
 
-ghost use Rattle.std.specs.Prelude.{◌≡◌, ◌<◌, ◌≤◌, Decides, unsigned_abs};
+ghost use Rattle.std.specs.Prelude.{◌≡◌, ◌<◌, ◌≤◌, Decides, MatchOption, slice_index_or, unsigned_abs};
 ghost use Rattle.auction.specs.Bounds.{most_sensitivity};
-ghost use Rattle.tree.specs.Links.{link_of, Descends};
-ghost use Rattle.tree.specs.Trees.{links_of, share, tree_grid};
+ghost use Rattle.auction.specs.Grids.{no_line};
+ghost use Rattle.tree.specs.Links.{link_of, zone_count, Descends};
+ghost use Rattle.tree.specs.Trees.{links_of, share, tree_lines, tree_grid};
 ghost use Rattle.tree.specs.Ways.{Leads};
 ghost use Rattle.tree.specs.Shape.{tree_zoned, tree_few_zones, tree_few_lines, limit_in_range, sensitivity_in_range};
 
@@ -12,49 +13,51 @@ use auction::bounds::MOST_SENSITIVITY;
 use network::Network;
 
 /// Which way a line leads: from a zone to its parent, or from the parent to that zone.
+#[derive(Clone, Copy)]
 enum Way {
     ToParent(usize),
     ToChild(usize),
-    Nowhere,
 }
 
 impl Tree {
-    fn way(&self, line: usize) -> Way
-        ensures { Leads (links_of self.now) line result }
+    /// Nothing for a line that the tree lacks.
+    fn way(&self, line: usize) -> Option<Way>
+        ensures { MatchOption result (slice_index_or (tree_lines (links_of self.now)) line no_line ≡ no_line) (Leads (links_of self.now) line) }
     {
-        let link = line / 2;
-        if link >= self.count {
-            return Way::Nowhere;
+        let child = line / 2 + 1;
+        if child > self.links.len() {
+            return None;
         }
         if line % 2 == 0 {
-            return Way::ToParent(link + 1);
+            return Some(Way::ToParent(child));
         }
-        Way::ToChild(link + 1)
+        Some(Way::ToChild(child))
     }
 
     /// The link of a zone that is there and is not 0.
     fn link_of(&self, child: usize) -> Link
-        requires { (0 < child) × (child ≤ self.now.count) }
+        requires { (0 < child) × (child < zone_count (links_of self.now)) }
         ensures { result ≡ link_of (links_of self.now) child }
     {
-        self.links[child - 1]
+        self.links.as_slice()[child - 1]
     }
 
     /// Does the way from `zone`, which is there, to zone 0 pass `child`?
     fn descends(&self, child: usize, zone: usize) -> bool
-        requires { zone ≤ self.now.count }
+        requires { zone < zone_count (links_of self.now) }
         ensures { Decides result (Descends (links_of self.now) child zone) }
     {
+        let links = self.links.as_slice();
         let mut at = zone;
         while at > child {
-            at = self.links[at - 1].parent as usize;
+            at = links[at - 1].parent as usize;
         }
         at == child
     }
 
     /// What is fed into a zone that is there flows over the line from `child` to its parent wholly, or not at all.
     fn share_of(&self, child: usize, zone: usize) -> i16
-        requires { zone ≤ self.now.count }
+        requires { zone < zone_count (links_of self.now) }
         ensures { (result ≡ share (links_of self.now) child zone) × (unsigned_abs result ≤ most_sensitivity) }
     {
         if self.descends(child, zone) {
@@ -82,25 +85,25 @@ impl Network for Tree {
     }
 
     fn lines(&self) -> usize {
-        2 * (self.next_zone() - 1)
+        2 * self.links.len()
     }
 
     fn sensitivity(&self, line: usize, zone: usize) -> i16 {
-        if zone > self.count {
+        if zone >= self.next_zone() {
             return 0;
         }
         match self.way(line) {
-            Way::ToParent(child) => self.share_of(child, zone),
-            Way::ToChild(child) => -self.share_of(child, zone),
-            Way::Nowhere => 0,
+            Some(Way::ToParent(child)) => self.share_of(child, zone),
+            Some(Way::ToChild(child)) => -self.share_of(child, zone),
+            None => 0,
         }
     }
 
     fn limit(&self, line: usize) -> u32 {
         match self.way(line) {
-            Way::ToParent(child) => self.link_of(child).to_parent,
-            Way::ToChild(child) => self.link_of(child).to_child,
-            Way::Nowhere => 0,
+            Some(Way::ToParent(child)) => self.link_of(child).to_parent,
+            Some(Way::ToChild(child)) => self.link_of(child).to_child,
+            None => 0,
         }
     }
 }

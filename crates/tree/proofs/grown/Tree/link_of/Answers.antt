@@ -1,6 +1,7 @@
-use Rattle.std.proofs.Common.{◌-◌, sym, arith}
-use Rattle.tree.specs.Shape.{link_read}
+use Rattle.std.proofs.Common.{◌-◌, List, get_or, ap}
+use Rattle.tree.specs.declared.grown.Link.{Link}
+use Rattle.tree.specs.Links.{no_link}
 use Rattle.tree.proofs.grown.Tree.link_of.Goals as goal
 
 pub returns : goal.returns
-returns c = sym (link_read c.args.self.now (c.args.child - 1) (omega arith))
+returns c = ap (λ (links : List Link). get_or links (c.args.child - 1) no_link) c.as_slice.ensures

@@ -3,8 +3,8 @@ use Rattle.tree.specs.Trees.{links_of}
 use Rattle.tree.specs.Shape.{link_count, line_past, parent_line, child_line}
 use Rattle.tree.proofs.grown.Tree.way.Goals as goal
 
-pub returns-then-link-self : goal.returns-then-link-self
-returns-then-link-self c = let t = c.args.self.now in line_past (links_of t) c.args.line (omega (arith, link_count t))
+pub returns-then-child-len : goal.returns-then-child-len
+returns-then-child-len c = let t = c.args.self.now in line_past (links_of t) c.args.line (omega (arith, link_count t))
 
 pub returns-then-line-eq0 : goal.returns-then-line-eq0
 returns-then-line-eq0 c =
