@@ -19,6 +19,7 @@ pub fn to_text(heap: Global, stream: &[u8]) -> Result<String, AllocError>
 {
     let mut text = String::new(heap);
     let mut reader = Reader::new(stream);
+    // The reader ends in two ways, and each leaves something else to write.
     'items: loop {
         match reader.next() {
             Ok(Some(item)) => {

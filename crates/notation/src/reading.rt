@@ -34,7 +34,7 @@ impl fmt::Display for TextFault {
 
 impl Error for TextFault {}
 
-/// Why a piece of text gave no command.
+/// Why a piece of text gave no command; a piece does not know its line.
 #[derive(Clone, Copy)]
 enum Unread {
     NoMemory,
@@ -66,6 +66,7 @@ fn numbers(heap: Global, piece: &[u8], from: usize) -> Result<Vec<i64>, Unread>
 {
     let mut found = Vec::new(heap);
     let mut at = find_from(piece, from, |byte| !is_blank(byte));
+    // Each word says where the next one is sought.
     'words: while at < piece.len() {
         let end = find_from(piece, at, is_blank);
         found.push(number(&piece[at..end])?)?;
@@ -102,6 +103,7 @@ pub fn to_bytes(heap: Global, text: &[u8]) -> Result<Vec<u8>, TextFault>
     let mut bytes = Vec::new(heap);
     let mut line: u32 = 1;
     let mut at = 0;
+    // Each piece, with its comment, says where the next one begins.
     'pieces: while at < text.len() {
         let end = find_from(text, at, ends_command);
         add_piece(heap, &mut bytes, &text[at..end]).map_err(|unread| match unread {

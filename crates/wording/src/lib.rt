@@ -8,6 +8,7 @@ use auction::bounds::MOST_ZONES;
 use std::alloc::{AllocError, Global};
 use stream::Command;
 
+// A function and no `impl Display`, since a `write!` in a loop inside `fmt` leaves a goal open.
 /// Numbers with a blank before each, whatever other numbers may follow on the line.
 fn add_numbers(text: &mut String, numbers: &[i64]) -> Result<(), AllocError>
     ensures { OnOk result ((more : List ℤ) → string_bytes text.new ++ after_blanks more ≡ string_bytes text.old ++ after_blanks (numbers.now ++ more)) }
