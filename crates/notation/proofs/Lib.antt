@@ -1,2 +1,3 @@
 mod Sofar
 mod Pieces
+mod Stops

@@ -5,8 +5,7 @@ use Rattle.std.proofs.lemmas.List.{drop_all, drop-drop, drop_more, get_or-drop, 
 use Rattle.std.proofs.lemmas.Bool.{cases_lt}
 use Rattle.stream.specs.declared.Command.{Command}
 use Rattle.parsing.specs.Numbers.{Means}
-use Rattle.notation.specs.declared.scanning.Stop.TheVariants.{Blank, Word, CommandEnd, LineEnd}
-use Rattle.notation.specs.Scanning.{is_blank, FirstStop}
+use Rattle.notation.specs.Scanning.{is_blank, is_word, ends_command, ends_line, FirstStop}
 use Rattle.notation.specs.Writing.{IsNumber, WordEnds, LineEnds, Numbers, no_number, skip_blank, number, Piece, no_command, leading_blank, command, EndsPiece, Writes, last, ended, noted}
 
 -- a text from one place on is the stretch up to another place, and the text from there on
@@ -27,7 +26,7 @@ after_blanks P one text i (suc n) within blanks p =
     subst P (sym (drop_more text i 0 there)) (one (get_or text i 0) (drop (i + 1) text) (blanks i (omega arith) (omega arith)) rest)
 
 -- the same, up to the first place of a word
-up_to_word : (P : List ℕ → Type 0) → ((b : ℕ) (rest : List ℕ) → is_blank b ≡ true → P rest → P (b ∷ rest)) → (text : List ℕ) (i j : ℕ) → i ≤ length text → FirstStop text i Word j → P (drop j text) → P (drop i text)
+up_to_word : (P : List ℕ → Type 0) → ((b : ℕ) (rest : List ℕ) → is_blank b ≡ true → P rest → P (b ∷ rest)) → (text : List ℕ) (i j : ℕ) → i ≤ length text → FirstStop text i is_word j → P (drop j text) → P (drop i text)
 up_to_word P one text i j within stop p =
     let there : j ≤ length text = stop.within within in
     let onward : i ≤ j = stop.onward in
@@ -40,7 +39,7 @@ up_to_word P one text i j within stop p =
     not_blank false e = sym e
 
 -- a word ends where the text stops at a blank
-pub word_ends : (text : List ℕ) (i j : ℕ) → FirstStop text i Blank j → WordEnds (drop j text)
+pub word_ends : (text : List ℕ) (i j : ℕ) → FirstStop text i is_blank j → WordEnds (drop j text)
 word_ends text i j stop =
     elim (cases_lt j (length text)) [ inl there ↦ subst WordEnds (sym (drop_more text j 0 there)) (stop.here there) | inr past ↦ subst WordEnds (sym (drop_all j text past)) tt ]
 
@@ -49,7 +48,7 @@ pub record Found (text : List ℕ) (from at : ℕ) (found : List ℤ) : Type 0 w
   pub more : at ≤ length text → (rest : List ℤ) → Numbers (drop at text) rest → Numbers (drop from text) (found ++ rest)
   pub all : length text < at → Numbers (drop from text) found
 
-pub none_found : (text : List ℕ) (from at : ℕ) → from ≤ length text → FirstStop text from Word at → Found text from at []
+pub none_found : (text : List ℕ) (from at : ℕ) → from ≤ length text → FirstStop text from is_word at → Found text from at []
 none_found text from at within stop =
     record {
       more = λ here rest ns. up_to_word (λ (l : List ℕ). Numbers l rest) (λ b l e p. skip_blank b l rest e p) text from at within stop ns;
@@ -57,7 +56,7 @@ none_found text from at within stop =
     }
 
 -- one number more, in the word from `at` to `end`
-pub one_found : (text : List ℕ) (from at end next : ℕ) (found : List ℤ) (n : ℤ) → at < length text → FirstStop text at Blank end → FirstStop text (end + 1) Word next → IsNumber (take (end - at) (drop at text)) n → Found text from at found → Found text from next (found ++ (n ∷ []))
+pub one_found : (text : List ℕ) (from at end next : ℕ) (found : List ℤ) (n : ℤ) → at < length text → FirstStop text at is_blank end → FirstStop text (end + 1) is_word next → IsNumber (take (end - at) (drop at text)) n → Found text from at found → Found text from next (found ++ (n ∷ []))
 one_found text from at end next found n there stop stop' is so =
     record { more = λ here rest ns. longer here rest ns; all = λ past. whole past }
   where
@@ -91,12 +90,12 @@ all_found text from at found end so =
     ]
 
 -- a piece that is blank writes nothing
-pub blank_piece : (piece : List ℕ) (start : ℕ) → FirstStop piece 0 Word start → length piece ≤ start → Piece piece []
+pub blank_piece : (piece : List ℕ) (start : ℕ) → FirstStop piece 0 is_word start → length piece ≤ start → Piece piece []
 blank_piece piece start stop end =
     up_to_word (λ (l : List ℕ). Piece l []) (λ b l e p. leading_blank b l [] e p) piece 0 start (omega arith) stop (subst (λ (l : List ℕ). Piece l []) (sym (drop_all start piece end)) no_command)
 
 -- a piece with a letter as its first word, and numbers after it, writes the command that they mean
-pub one_piece : (piece : List ℕ) (start end : ℕ) (numbers : List ℤ) (meant : Command) → FirstStop piece 0 Word start → start < length piece → FirstStop piece start Blank end → end ≡ start + 1 → Numbers (drop end piece) numbers → Means (get_or piece start 0) numbers meant → Piece piece (meant ∷ [])
+pub one_piece : (piece : List ℕ) (start end : ℕ) (numbers : List ℤ) (meant : Command) → FirstStop piece 0 is_word start → start < length piece → FirstStop piece start is_blank end → end ≡ start + 1 → Numbers (drop end piece) numbers → Means (get_or piece start 0) numbers meant → Piece piece (meant ∷ [])
 one_piece piece start end numbers meant stop there word one ns means =
     let rest : Numbers (drop (start + 1) piece) numbers = subst (λ (i : ℕ). Numbers (drop i piece) numbers) one ns in
     let ends : WordEnds (drop (start + 1) piece) = subst (λ (i : ℕ). WordEnds (drop i piece)) one (word_ends piece start end word) in
@@ -144,7 +143,7 @@ at_the_end text at end done commands there onward ends piece so =
     }
 
 -- the text goes on after a comment
-after_comment : (text : List ℕ) (at end stop : ℕ) (done commands : List Command) → at ≤ end → end < length text → get_or text end 0 ≡ 35 → FirstStop text (end + 1) LineEnd stop → Piece (take (end - at) (drop at text)) commands → Going text at done → Going text (stop + 1) (done ++ commands)
+after_comment : (text : List ℕ) (at end stop : ℕ) (done commands : List Command) → at ≤ end → end < length text → get_or text end 0 ≡ 35 → FirstStop text (end + 1) ends_line stop → Piece (take (end - at) (drop at text)) commands → Going text at done → Going text (stop + 1) (done ++ commands)
 after_comment text at end stop done commands onward inside hash line piece so =
     record { more = λ here rest ws. longer here rest ws; all = λ past. whole past }
   where
@@ -183,11 +182,11 @@ after_comment text at end stop done commands onward inside hash line piece so =
         subst (λ (l : List Command). Writes text (done ++ l)) (append-nil commands) (put [] (subst LineEnds (sym none) tt) (subst (λ (l : List ℕ). Writes l []) (sym none) (last [] [] no_command)))
 
 -- one piece more, from `at` to `end`, with the comment after it, if one begins there
-pub one_more_piece : (text : List ℕ) (at end stop : ℕ) (done commands : List Command) → at < length text → FirstStop text at CommandEnd end → MatchBool (eqb (get_or text end 0) 35) (FirstStop text (end + 1) LineEnd stop) (stop ≡ end) → Piece (take (end - at) (drop at text)) commands → Going text at done → Going text (stop + 1) (done ++ commands)
+pub one_more_piece : (text : List ℕ) (at end stop : ℕ) (done commands : List Command) → at < length text → FirstStop text at ends_command end → MatchBool (eqb (get_or text end 0) 35) (FirstStop text (end + 1) ends_line stop) (stop ≡ end) → Piece (take (end - at) (drop at text)) commands → Going text at done → Going text (stop + 1) (done ++ commands)
 one_more_piece text at end stop done commands there cut_at goes piece so =
     elim (cases_lt end (length text)) [
       | inl inside ↦ by_hash (eqb (get_or text end 0) 35) refl inside goes
-      | inr ends ↦ past_all ends (subst (λ (b : ℕ). MatchBool (eqb b 35) (FirstStop text (end + 1) LineEnd stop) (stop ≡ end)) (get_or_past text end 0 ends) goes)
+      | inr ends ↦ past_all ends (subst (λ (b : ℕ). MatchBool (eqb b 35) (FirstStop text (end + 1) ends_line stop) (stop ≡ end)) (get_or_past text end 0 ends) goes)
     ]
   where
     ender : (semicolon feed hash : Bool) → hash ≡ false → (semicolon || (feed || hash)) ≡ true → (semicolon || feed) ≡ true
@@ -198,6 +197,6 @@ one_more_piece text at end stop done commands there cut_at goes piece so =
     past_all : length text ≤ end → stop ≡ end → Going text (stop + 1) (done ++ commands)
     past_all ends same = subst (λ (i : ℕ). Going text (i + 1) (done ++ commands)) (sym same) (at_the_end text at end done commands there cut_at.onward ends piece so)
 
-    by_hash : (b : Bool) → eqb (get_or text end 0) 35 ≡ b → end < length text → MatchBool b (FirstStop text (end + 1) LineEnd stop) (stop ≡ end) → Going text (stop + 1) (done ++ commands)
+    by_hash : (b : Bool) → eqb (get_or text end 0) 35 ≡ b → end < length text → MatchBool b (FirstStop text (end + 1) ends_line stop) (stop ≡ end) → Going text (stop + 1) (done ++ commands)
     by_hash true is inside line = after_comment text at end stop done commands cut_at.onward inside (eqb-true (get_or text end 0) 35 is) line piece so
     by_hash false is inside same = subst (λ (i : ℕ). Going text (i + 1) (done ++ commands)) (sym same) (after_ender text at end done commands cut_at.onward inside (ender (eqb (get_or text end 0) 59) (eqb (get_or text end 0) 10) (eqb (get_or text end 0) 35) is (cut_at.here inside)) piece so)

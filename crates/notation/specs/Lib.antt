@@ -1,3 +1,4 @@
 pub mod Showing
 pub mod Scanning
 pub mod Writing
+pub mod Faults

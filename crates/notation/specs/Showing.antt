@@ -1,10 +1,9 @@
 -- What a stream is as readable text.
-use Rattle.std.specs.Prelude.{◌≡◌, ℕ, ◌≤◌, ◌⊎◌, List, [], ◌∷◌, ◌++◌, length, take, codes, decimal}
+use Rattle.std.specs.Prelude.{◌≡◌, ℕ, ◌≤◌, ◌⊎◌, List, [], ◌∷◌, ◌++◌, length, take, codes}
 use Rattle.stream.specs.declared.Command.{Command}
 use Rattle.stream.specs.declared.ReadFault.{ReadFault}
-use Rattle.stream.specs.declared.ReadFault.TheVariants.{UnknownByte, MissingOperands}
 use Rattle.stream.specs.Spelling.{spelled}
-use Rattle.stream.specs.Faults.{Faulty}
+use Rattle.stream.specs.Faults.{Faulty, fault_words}
 use Rattle.wording.specs.Texts.{text_of}
 
 -- the bytes and the text of one command after another
@@ -18,8 +17,7 @@ texts (command ∷ commands) = text_of command ++ texts commands
 
 -- the comment at which the text of a faulty stream stops
 abbrev pub fault_text : ReadFault → List ℕ
-fault_text (UnknownByte offset) = codes "# unknown byte at offset " ++ (decimal offset ++ codes "\n")
-fault_text (MissingOperands offset _) = codes "# missing operands at offset " ++ (decimal offset ++ codes "\n")
+fault_text fault = codes "# " ++ (fault_words fault ++ codes "\n")
 
 -- a stream that is read to its end, or to a fault
 pub record Shown (bytes text : List ℕ) : Type 0 where

@@ -1,17 +1,19 @@
 //! From readable text to the bytes of a stream.
 
-ghost use Rattle.std.specs.Prelude.{◌≡◌, ◌+◌, ◌≤◌, length, drop, IfOk, MatchBool, OnOk, ◌==◌, slice_index};
-ghost use Rattle.notation.specs.Scanning.{Added, Commands, FirstStop, in_words};
+ghost use Rattle.std.specs.Prelude.{◌≡◌, ◌+◌, ◌≤◌, length, drop, Some, IfOk, MatchBool, OnOk, ◌==◌, slice_index};
+ghost use Rattle.notation.specs.Scanning.{Added, Commands, FirstStop, ends_line};
+ghost use Rattle.notation.specs.Faults.{text_fault_words};
 ghost use Rattle.notation.specs.Writing.{AddedByPiece, Numbers, StreamOf};
-ghost use Rattle.notation.specs.declared.scanning.Stop.TheVariants.{LineEnd};
 
-use crate::scanning::{Stop, find_from, number};
+use crate::scanning::{ends_command, find_from, is_blank, number};
 use encoding::encode;
 use parsing::{Wrong, command};
 use std::alloc::{AllocError, AllocFailed, Global};
+use std::error::Error;
+use std::fmt;
 
 /// Why a text gave no stream.
-#[derive(Clone, Copy)]
+#[derive(Clone, Copy, Debug, PartialEq, Eq)]
 pub enum TextFault {
     /// There was no memory.
     NoMemory,
@@ -19,20 +21,20 @@ pub enum TextFault {
     Wrong { line: u32, wrong: Wrong },
 }
 
-/// In words, what is wrong with a command as it is written down.
-pub fn reason(wrong: Wrong) -> &'static str
-    ensures { result.now ≡ in_words wrong }
-{
-    match wrong {
-        Wrong::NoCommand => "no command has this name",
-        Wrong::NoNumber => "an operand is no number",
-        Wrong::TooFew => "operands are missing",
-        Wrong::TooMany => "there are too many operands",
-        Wrong::DoesNotFit => "an operand does not fit its width",
+impl fmt::Display for TextFault {
+    ghost output = { λ fault. Some (text_fault_words fault) };
+
+    fn fmt<W: fmt::Write>(&self, f: &mut fmt::Formatter<W>) -> fmt::Result {
+        match self {
+            TextFault::NoMemory => write!(f, "no memory"),
+            TextFault::Wrong { line, wrong } => write!(f, "line {line}: {wrong}"),
+        }
     }
 }
 
-/// Why a piece of text gave no command.
+impl Error for TextFault {}
+
+/// Why a piece of text gave no command; a piece does not know its line.
 #[derive(Clone, Copy)]
 enum Unread {
     NoMemory,
@@ -63,11 +65,12 @@ fn numbers(heap: Global, piece: &[u8], from: usize) -> Result<Vec<i64>, Unread>
     ensures { IfOk result (λ v. Numbers (drop from piece.now) v.items) }
 {
     let mut found = Vec::new(heap);
-    let mut at = find_from(piece, from, Stop::Word);
+    let mut at = find_from(piece, from, |byte| !is_blank(byte));
+    // Each word says where the next one is sought.
     'words: while at < piece.len() {
-        let end = find_from(piece, at, Stop::Blank);
+        let end = find_from(piece, at, is_blank);
         found.push(number(&piece[at..end])?)?;
-        at = find_from(piece, end + 1, Stop::Word);
+        at = find_from(piece, end + 1, |byte| !is_blank(byte));
     }
     Ok(found)
 }
@@ -77,16 +80,16 @@ fn add_piece(heap: Global, out: &mut Vec<u8>, piece: &[u8]) -> Result<(), Unread
     ensures added { OnOk result (Added out.old.items out.new.items) }
     ensures written { OnOk result (AddedByPiece piece.now out.old.items out.new.items) }
 {
-    let start = find_from(piece, 0, Stop::Word);
-    if start >= piece.len() {
+    let start = find_from(piece, 0, |byte| !is_blank(byte));
+    let Some(letter) = piece.get(start) else {
         return Ok(());
-    }
-    let end = find_from(piece, start, Stop::Blank);
+    };
+    let end = find_from(piece, start, is_blank);
     if end != start + 1 {
         return Err(Unread::Because(Wrong::NoCommand));
     }
     let operands = numbers(heap, piece, end)?;
-    let meant = command(piece[start], operands.as_slice())?;
+    let meant = command(*letter, operands.as_slice())?;
     let bytes = encode(heap, &meant)?;
     out.extend_from_slice(bytes.as_slice())?;
     Ok(())
@@ -100,13 +103,13 @@ pub fn to_bytes(heap: Global, text: &[u8]) -> Result<Vec<u8>, TextFault>
     let mut bytes = Vec::new(heap);
     let mut line: u32 = 1;
     let mut at = 0;
+    // Each piece, with its comment, says where the next one begins.
     'pieces: while at < text.len() {
-        let end = find_from(text, at, Stop::CommandEnd);
-        match add_piece(heap, &mut bytes, &text[at..end]) {
-            Ok(()) => {}
-            Err(Unread::NoMemory) => return Err(TextFault::NoMemory),
-            Err(Unread::Because(wrong)) => return Err(TextFault::Wrong { line, wrong }),
-        }
+        let end = find_from(text, at, ends_command);
+        add_piece(heap, &mut bytes, &text[at..end]).map_err(|unread| match unread {
+            Unread::NoMemory => TextFault::NoMemory,
+            Unread::Because(wrong) => TextFault::Wrong { line, wrong },
+        })?;
         let stop = after_comment(text, end);
         if ends_line(text, stop) {
             line = line.saturating_add(1);
@@ -119,11 +122,11 @@ pub fn to_bytes(heap: Global, text: &[u8]) -> Result<Vec<u8>, TextFault>
 /// Where the comment ends that begins at a place, if one does; else that place.
 fn after_comment(text: &[u8], at: usize) -> usize
     requires { at ≤ length text.now }
-    ensures ends { MatchBool (slice_index text.now at == 35) (FirstStop text.now (at + 1) LineEnd result) (result ≡ at) }
+    ensures ends { MatchBool (slice_index text.now at == 35) (FirstStop text.now (at + 1) ends_line result) (result ≡ at) }
     ensures within { (at ≤ result) × (result ≤ length text.now) }
 {
     if at < text.len() && text[at] == b'#' {
-        return find_from(text, at + 1, Stop::LineEnd);
+        return find_from(text, at + 1, |byte| byte == b'\n');
     }
     at
 }
@@ -132,5 +135,5 @@ fn after_comment(text: &[u8], at: usize) -> usize
 fn ends_line(text: &[u8], at: usize) -> bool
     ensures { result ≡ (slice_index text.now at == 10) }
 {
-    at < text.len() && text[at] == b'\n'
+    text.get(at) == Some(&b'\n')
 }

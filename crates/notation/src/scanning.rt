@@ -1,66 +1,42 @@
 //! The parts of a readable text: commands, words and numbers.
 
-ghost use Rattle.std.specs.Prelude.{◌≡◌, IfOk};
-ghost use Rattle.notation.specs.Scanning.{is_blank, ends_command, stops_at, FirstStop};
+ghost use Rattle.std.specs.Prelude.{◌≡◌, ℕ, ◌≤◌, Bool, length, IfOk};
+ghost use Rattle.notation.specs.Scanning.{is_blank, ends_command, FirstStop};
 ghost use Rattle.notation.specs.Writing.{IsNumber};
 
 use parsing::Wrong;
 
-/// What a stretch of text stops at.
-#[derive(Clone, Copy)]
-pub enum Stop {
-    Blank,
-    Word,
-    CommandEnd,
-    LineEnd,
-}
-
-fn is_blank(byte: u8) -> bool
+pub fn is_blank(byte: u8) -> bool
     ensures { result ≡ is_blank byte }
 {
     byte == b' ' || byte == b'\t' || byte == b'\r'
 }
 
-fn ends_command(byte: u8) -> bool
+pub fn ends_command(byte: u8) -> bool
     ensures { result ≡ ends_command byte }
 {
     byte == b';' || byte == b'\n' || byte == b'#'
 }
 
-fn stops(stop: Stop, byte: u8) -> bool
-    ensures { result ≡ stops_at stop byte }
-{
-    match stop {
-        Stop::Blank => is_blank(byte),
-        Stop::Word => !is_blank(byte),
-        Stop::CommandEnd => ends_command(byte),
-        Stop::LineEnd => byte == b'\n',
-    }
-}
-
 /// The first place from `at` on at which the text stops, or its end.
-pub fn find_from(text: &[u8], at: usize, stop: Stop) -> usize
-    ensures { FirstStop text.now at stop result }
+pub fn find_from<F: Fn(u8) -> bool>(text: &[u8], at: usize, stops: F) -> usize
+    requires { F.IsAlwaysCallable stops }
+    ensures within { (at ≤ result) × (at ≤ length text.now → result ≤ length text.now) }
+    ensures first { (stops_at : ℕ → Bool) → ((byte : ℕ) (answer : Bool) → F.post stops byte answer → answer ≡ stops_at byte) → FirstStop text.now at stops_at result }
 {
-    let mut place = at;
-    while place < text.len() {
-        if stops(stop, text[place]) {
-            return place;
-        }
-        place += 1;
+    if at > text.len() {
+        return at;
     }
-    place
+    match text[at..].iter().position(|byte| stops(*byte)) {
+        Some(onward) => at + onward,
+        None => text.len(),
+    }
 }
 
 /// The number that a word writes.
 pub fn number(word: &[u8]) -> Result<i64, Wrong>
     ensures { IfOk result (λ n. IsNumber word.now n) }
 {
-    let Ok(text) = std::str::from_utf8(word) else {
-        return Err(Wrong::NoNumber);
-    };
-    match text.parse::<i64>() {
-        Ok(value) => Ok(value),
-        Err(_) => Err(Wrong::NoNumber),
-    }
+    let text = std::str::from_utf8(word).map_err(|_| Wrong::NoNumber)?;
+    text.parse().map_err(|_| Wrong::NoNumber)
 }

@@ -5,7 +5,6 @@
 mod tests {
     use notation::{TextFault, to_bytes, to_text};
     use parsing::Wrong;
-    use std::process::Abort;
     use std::test::Fail;
     use stream::Reader;
 
@@ -15,26 +14,21 @@ mod tests {
     const OFFSETS: [usize; 14] = [0, 2, 12, 13, 24, 35, 46, 48, 57, 66, 75, 81, 88, 90];
 
     fn bytes_of(rt: &HostRuntime, text: &str) -> Result<Vec<u8>, Fail> {
-        match to_bytes(rt.alloc(), text.as_bytes()) {
-            Ok(bytes) => Ok(bytes),
-            Err(_) => Err(Fail::new("no stream")),
-        }
+        Ok(to_bytes(rt.alloc(), text.as_bytes())?)
     }
 
-    fn is_wrong(rt: &(impl Abort + AllocGlobal), text: &str, at: u32) -> Result<Wrong, Fail> {
-        match to_bytes(rt.alloc(), text.as_bytes()) {
-            Err(TextFault::Wrong { line, wrong }) => {
-                assert!(rt; line == at);
-                Ok(wrong)
-            }
-            _ => Err(Fail::new("no fault")),
-        }
+    fn fault_of(rt: &HostRuntime, text: &str) -> Option<TextFault> {
+        to_bytes(rt.alloc(), text.as_bytes()).err()
+    }
+
+    fn wrong_in(line: u32, wrong: Wrong) -> Option<TextFault> {
+        Some(TextFault::Wrong { line, wrong })
     }
 
     #[test]
     fn the_worked_hour(rt: HostRuntime) -> Result<(), Fail> {
         let bytes = bytes_of(&rt, HOUR)?;
-        assert!(rt; bytes.len() == 92);
+        assert_eq!(rt; bytes.len(), 92);
         let mut reader = Reader::new(bytes.as_slice());
         for offset in OFFSETS {
             match reader.next() {
@@ -57,14 +51,14 @@ mod tests {
             &rt,
             "Y 3 # a table\nR 7 -1 1000\r\n;V 4294967295 -32768;\tT 1 0 2 5 6\nW 0 1 65535;X 1;H 2 9;L 1 -2147483648",
         )?;
-        assert!(rt; bytes.len() == 139);
+        assert_eq!(rt; bytes.len(), 139);
         let text = to_text(rt.alloc(), bytes.as_slice())?;
         assert!(rt;
             text.as_str()
                 == "Y 3\nR 7 -1 1000 0 0 0 0 0 0 0 0 0 0 0 0 0 0 0 0 0 0 0 0 0 0\nV 4294967295 -32768 0 0 0 0 0 0 0 0 0 0 0 0 0 0 0 0 0 0 0 0 0 0 0\nT 1 0 2 5 6\nW 0 1 65535\nX 1\nH 2 9\nL 1 -2147483648\n"
         );
         let again = bytes_of(&rt, text.as_str())?;
-        assert!(rt; again.as_slice() == bytes.as_slice());
+        assert_eq!(rt; again.as_slice(), bytes.as_slice());
         assert!(rt;
             &bytes.as_slice()[0..11] == b"Y\x03R\x07\x00\x00\x00\xff\xff\xe8\x03".as_slice()
         );
@@ -72,22 +66,42 @@ mod tests {
     }
 
     #[test]
-    fn wrong_texts(rt: HostRuntime) -> Result<(), Fail> {
-        assert!(rt; matches!(is_wrong(&rt, "Z 2\nK 0 40", 2)?, Wrong::TooFew));
-        assert!(rt; matches!(is_wrong(&rt, "C 0 1", 1)?, Wrong::TooMany));
-        assert!(rt; matches!(is_wrong(&rt, "# one\n# two\n Z 256", 3)?, Wrong::DoesNotFit));
-        assert!(rt; matches!(is_wrong(&rt, "W 0 0 -1", 1)?, Wrong::DoesNotFit));
-        assert!(rt; matches!(is_wrong(&rt, "Q x", 1)?, Wrong::NoNumber));
-        assert!(rt; matches!(is_wrong(&rt, "E 1", 1)?, Wrong::NoCommand));
+    fn wrong_texts(rt: HostRuntime) {
+        assert_eq!(rt; fault_of(&rt, "Z 2\nK 0 40"), wrong_in(2, Wrong::TooFew));
+        assert_eq!(rt; fault_of(&rt, "C 0 1"), wrong_in(1, Wrong::TooMany));
+        assert_eq!(rt;
+            fault_of(&rt, "# one\n# two\n Z 256"),
+            wrong_in(3, Wrong::DoesNotFit)
+        );
+        assert_eq!(rt; fault_of(&rt, "W 0 0 -1"), wrong_in(1, Wrong::DoesNotFit));
+        assert_eq!(rt; fault_of(&rt, "Q x"), wrong_in(1, Wrong::NoNumber));
+        assert_eq!(rt; fault_of(&rt, "E 1"), wrong_in(1, Wrong::NoCommand));
+    }
+
+    // How many operands there are is asked before whether they fit.
+    #[test]
+    fn the_count_comes_first(rt: HostRuntime) {
+        assert_eq!(rt; fault_of(&rt, "K 256"), wrong_in(1, Wrong::TooFew));
+        assert_eq!(rt; fault_of(&rt, "C 256 1"), wrong_in(1, Wrong::TooMany));
+    }
+
+    #[test]
+    fn faults_in_words(rt: HostRuntime) -> Result<(), Fail> {
+        let fault = TextFault::Wrong {
+            line: 2,
+            wrong: Wrong::TooFew,
+        };
+        let words = format!(in rt.alloc(); "{fault}")?;
+        assert_eq!(rt; words.as_str(), "line 2: operands are missing");
         Ok(())
     }
 
     #[test]
     fn streams_that_cannot_be_read(rt: HostRuntime) -> Result<(), Fail> {
         let unknown = to_text(rt.alloc(), b"Z\x02!G")?;
-        assert!(rt; unknown.as_str() == "Z 2\n# unknown byte at offset 2\n");
+        assert_eq!(rt; unknown.as_str(), "Z 2\n# unknown byte at offset 2\n");
         let missing = to_text(rt.alloc(), b"GK\x00\x00")?;
-        assert!(rt; missing.as_str() == "G\n# missing operands at offset 1\n");
+        assert_eq!(rt; missing.as_str(), "G\n# missing operands at offset 1\n");
         Ok(())
     }
 }

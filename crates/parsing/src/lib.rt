@@ -1,20 +1,17 @@
 //! From a letter and the numbers that follow it to the command that they mean.
 #![tactic(auto)]
 
-mod layouts;
+mod counts;
 mod rows;
-mod widths;
+mod wrong;
 
 ghost use Rattle.std.specs.Prelude.{IfOk};
 ghost use Rattle.parsing.specs.Numbers.{Means};
 
-use crate::layouts::{
-    byte_byte_four, byte_byte_four_four, byte_byte_two, byte_byte_two_four, byte_four,
-    byte_four_four, byte_only, byte_signed, nothing, three_bytes_four_four,
-};
+use crate::counts::exactly;
 use crate::rows::limit_and_row;
 use stream::Command;
-pub use widths::Wrong;
+pub use wrong::Wrong;
 
 /// The command that a letter and numbers mean.
 pub fn command(letter: u8, numbers: &[i64]) -> Result<Command, Wrong>
@@ -33,19 +30,23 @@ fn network_command(letter: u8, numbers: &[i64]) -> Result<Command, Wrong>
 {
     match letter {
         b'Z' => {
-            let zones = byte_only(numbers)?;
-            Ok(Command::Tree { zones })
+            let [zones] = exactly::<1>(numbers)?;
+            Ok(Command::Tree {
+                zones: zones.try_into()?,
+            })
         }
         b'Y' => {
-            let zones = byte_only(numbers)?;
-            Ok(Command::Table { zones })
+            let [zones] = exactly::<1>(numbers)?;
+            Ok(Command::Table {
+                zones: zones.try_into()?,
+            })
         }
         b'K' => {
-            let (parent, to_parent, to_child) = byte_four_four(numbers)?;
+            let [parent, to_parent, to_child] = exactly::<3>(numbers)?;
             Ok(Command::Link {
-                parent,
-                to_parent,
-                to_child,
+                parent: parent.try_into()?,
+                to_parent: to_parent.try_into()?,
+                to_child: to_child.try_into()?,
             })
         }
         b'R' => {
@@ -63,11 +64,14 @@ fn network_command(letter: u8, numbers: &[i64]) -> Result<Command, Wrong>
             })
         }
         b'H' => {
-            let (line, kwh) = byte_four(numbers)?;
-            Ok(Command::HoldBack { line, kwh })
+            let [line, kwh] = exactly::<2>(numbers)?;
+            Ok(Command::HoldBack {
+                line: line.try_into()?,
+                kwh: kwh.try_into()?,
+            })
         }
         b'G' => {
-            nothing(numbers)?;
+            let [] = exactly::<0>(numbers)?;
             Ok(Command::Open)
         }
         _ => Err(Wrong::NoCommand),
@@ -80,56 +84,64 @@ fn hour_command(letter: u8, numbers: &[i64]) -> Result<Command, Wrong>
 {
     match letter {
         b'O' => {
-            let (house, zone, price, quantity) = byte_byte_four_four(numbers)?;
+            let [house, zone, price, quantity] = exactly::<4>(numbers)?;
             Ok(Command::Offer {
-                house,
-                zone,
-                price,
-                quantity,
+                house: house.try_into()?,
+                zone: zone.try_into()?,
+                price: price.try_into()?,
+                quantity: quantity.try_into()?,
             })
         }
         b'B' => {
-            let (house, zone, price, quantity) = byte_byte_four_four(numbers)?;
+            let [house, zone, price, quantity] = exactly::<4>(numbers)?;
             Ok(Command::Bid {
-                house,
-                zone,
-                price,
-                quantity,
+                house: house.try_into()?,
+                zone: zone.try_into()?,
+                price: price.try_into()?,
+                quantity: quantity.try_into()?,
             })
         }
         b'T' => {
-            let (house, first, second, price, quantity) = three_bytes_four_four(numbers)?;
+            let [house, first, second, price, quantity] = exactly::<5>(numbers)?;
             Ok(Command::Transfer {
-                house,
-                first,
-                second,
-                price,
-                quantity,
+                house: house.try_into()?,
+                first: first.try_into()?,
+                second: second.try_into()?,
+                price: price.try_into()?,
+                quantity: quantity.try_into()?,
             })
         }
         b'W' => {
-            let (house, list, number) = byte_byte_two(numbers)?;
+            let [house, list, number] = exactly::<3>(numbers)?;
             Ok(Command::Withdraw {
-                house,
-                list,
-                number,
+                house: house.try_into()?,
+                list: list.try_into()?,
+                number: number.try_into()?,
             })
         }
         b'C' => {
-            let house = byte_only(numbers)?;
-            Ok(Command::Close { house })
+            let [house] = exactly::<1>(numbers)?;
+            Ok(Command::Close {
+                house: house.try_into()?,
+            })
         }
         b'Q' => {
-            let house = byte_only(numbers)?;
-            Ok(Command::Try { house })
+            let [house] = exactly::<1>(numbers)?;
+            Ok(Command::Try {
+                house: house.try_into()?,
+            })
         }
         b'S' => {
-            let house = byte_only(numbers)?;
-            Ok(Command::Settle { house })
+            let [house] = exactly::<1>(numbers)?;
+            Ok(Command::Settle {
+                house: house.try_into()?,
+            })
         }
         b'X' => {
-            let house = byte_only(numbers)?;
-            Ok(Command::Void { house })
+            let [house] = exactly::<1>(numbers)?;
+            Ok(Command::Void {
+                house: house.try_into()?,
+            })
         }
         _ => Err(Wrong::NoCommand),
     }
@@ -141,21 +153,28 @@ fn sheet_command(letter: u8, numbers: &[i64]) -> Result<Command, Wrong>
 {
     match letter {
         b'A' => {
-            let (house, list, number, quantity) = byte_byte_two_four(numbers)?;
+            let [house, list, number, quantity] = exactly::<4>(numbers)?;
             Ok(Command::Quantity {
-                house,
-                list,
-                number,
-                quantity,
+                house: house.try_into()?,
+                list: list.try_into()?,
+                number: number.try_into()?,
+                quantity: quantity.try_into()?,
             })
         }
         b'L' => {
-            let (house, lambda) = byte_signed(numbers)?;
-            Ok(Command::Lambda { house, lambda })
+            let [house, lambda] = exactly::<2>(numbers)?;
+            Ok(Command::Lambda {
+                house: house.try_into()?,
+                lambda: lambda.try_into()?,
+            })
         }
         b'M' => {
-            let (house, line, price) = byte_byte_four(numbers)?;
-            Ok(Command::ShadowPrice { house, line, price })
+            let [house, line, price] = exactly::<3>(numbers)?;
+            Ok(Command::ShadowPrice {
+                house: house.try_into()?,
+                line: line.try_into()?,
+                price: price.try_into()?,
+            })
         }
         _ => Err(Wrong::NoCommand),
     }

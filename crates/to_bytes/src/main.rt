@@ -1,8 +1,8 @@
 //! Readable text on the standard input becomes a stream on the standard output.
 #![tactic(auto)]
 
-use anyhow::anyhow;
-use notation::{TextFault, reason, to_bytes};
+use anyhow::{bail, ensure};
+use notation::{TextFault, to_bytes};
 use std::io::{Read, Write};
 
 /// A longer text is refused.
@@ -13,21 +13,16 @@ fn run(rt: &HostRuntime) -> anyhow::Result<()> {
     rt.stdin()
         .take(MOST_TEXT as u64 + 1)
         .read_to_end(&mut text)?;
-    if text.len() > MOST_TEXT {
-        return Err(anyhow!("the text is too long"));
-    }
+    ensure!(text.len() <= MOST_TEXT, "the text is too long");
     match to_bytes(rt.alloc(), text.as_slice()) {
-        Ok(bytes) => {
-            rt.stdout().write_all(bytes.as_slice())?;
-            Ok(())
-        }
-        Err(TextFault::NoMemory) => Err(anyhow!("no memory")),
-        Err(TextFault::Wrong { line, wrong }) => {
-            let why = reason(wrong);
-            eprintln!(rt; "line {line}: {why}")?;
-            Err(anyhow!("no stream"))
+        Ok(bytes) => rt.stdout().write_all(bytes.as_slice())?,
+        Err(TextFault::NoMemory) => bail!("no memory"),
+        Err(fault) => {
+            eprintln!(rt; "{fault}")?;
+            bail!("no stream");
         }
     }
+    Ok(())
 }
 
 fn main(rt: HostRuntime) -> anyhow::Result<()> {

@@ -1,76 +1,36 @@
 //! A command in readable text.
 #![tactic(auto)]
 
-ghost use Rattle.std.specs.Prelude.{◌≡◌, [], ◌∷◌, ◌++◌, pos, IfOk, string_bytes, decimal, OnOk};
-ghost use Rattle.std.specs.Fmt.{signed_decimal};
+ghost use Rattle.std.specs.Prelude.{◌≡◌, List, ℤ, ◌∷◌, ◌++◌, pos, IfOk, OnOk, string_bytes};
 ghost use Rattle.wording.specs.Texts.{after_blanks, text_of};
 
 use auction::bounds::MOST_ZONES;
 use std::alloc::{AllocError, Global};
 use stream::Command;
 
-fn one(heap: Global, letter: &str, a: u32) -> Result<String, AllocError>
-    ensures { IfOk result (λ s. string_bytes s ≡ letter.now ++ after_blanks (pos a ∷ [])) }
+// A function and no `impl Display`, since a `write!` in a loop inside `fmt` leaves a goal open.
+/// Numbers with a blank before each, whatever other numbers may follow on the line.
+fn add_numbers(text: &mut String, numbers: &[i64]) -> Result<(), AllocError>
+    ensures { OnOk result ((more : List ℤ) → string_bytes text.new ++ after_blanks more ≡ string_bytes text.old ++ after_blanks (numbers.now ++ more)) }
 {
-    format!(in heap; "{letter} {a}\n")
+    for number in numbers {
+        write!(text, " {number}")?;
+    }
+    Ok(())
 }
 
-fn two(heap: Global, letter: &str, a: u32, b: u32) -> Result<String, AllocError>
-    ensures { IfOk result (λ s. string_bytes s ≡ letter.now ++ after_blanks (pos a ∷ pos b ∷ [])) }
+/// A letter and its numbers on a line of their own.
+fn text_line(heap: Global, letter: &str, numbers: &[i64]) -> Result<String, AllocError>
+    ensures { IfOk result (λ s. string_bytes s ≡ letter.now ++ after_blanks numbers.now) }
 {
-    format!(in heap; "{letter} {a} {b}\n")
-}
-
-fn three(heap: Global, letter: &str, a: u32, b: u32, c: u32) -> Result<String, AllocError>
-    ensures { IfOk result (λ s. string_bytes s ≡ letter.now ++ after_blanks (pos a ∷ pos b ∷ pos c ∷ [])) }
-{
-    format!(in heap; "{letter} {a} {b} {c}\n")
-}
-
-fn signed_second(heap: Global, letter: &str, a: u32, b: i32) -> Result<String, AllocError>
-    ensures { IfOk result (λ s. string_bytes s ≡ letter.now ++ after_blanks (pos a ∷ b ∷ [])) }
-{
-    let text = format!(in heap; "{letter} {a} {b}\n")?;
+    let mut text = String::from_str(heap, letter)?;
+    add_numbers(&mut text, numbers)?;
+    text.push_str("\n")?;
     Ok(text)
 }
 
-fn four(heap: Global, letter: &str, a: u32, b: u32, c: u32, d: u32) -> Result<String, AllocError>
-    ensures { IfOk result (λ s. string_bytes s ≡ letter.now ++ after_blanks (pos a ∷ pos b ∷ pos c ∷ pos d ∷ [])) }
-{
-    format!(in heap; "{letter} {a} {b} {c} {d}\n")
-}
-
-fn five(
-    heap: Global,
-    letter: &str,
-    a: u32,
-    b: u32,
-    c: u32,
-    d: u32,
-    e: u32,
-) -> Result<String, AllocError>
-    ensures { IfOk result (λ s. string_bytes s ≡ letter.now ++ after_blanks (pos a ∷ pos b ∷ pos c ∷ pos d ∷ pos e ∷ [])) }
-{
-    format!(in heap; "{letter} {a} {b} {c} {d} {e}\n")
-}
-
-/// A letter and a limit.
-fn opened(heap: Global, letter: &str, limit: u32) -> Result<String, AllocError>
-    ensures { IfOk result (λ s. string_bytes s ≡ letter.now ++ (32 ∷ decimal limit)) }
-{
-    format!(in heap; "{letter} {limit}")
-}
-
-/// A sensitivity, with a blank before it.
-fn one_more(heap: Global, text: &mut String, sensitivity: i16) -> Result<(), AllocError>
-    ensures { OnOk result (string_bytes text.new ≡ string_bytes text.old ++ (32 ∷ signed_decimal sensitivity)) }
-{
-    let more = format!(in heap; " {sensitivity}")?;
-    text.push_str(more.as_str())
-}
-
-/// A limit and a row of sensitivities.
-fn limit_and_row(
+/// A letter, a limit and a row of sensitivities on a line of their own.
+fn row_line(
     heap: Global,
     letter: &str,
     limit: u32,
@@ -78,10 +38,9 @@ fn limit_and_row(
 ) -> Result<String, AllocError>
     ensures { IfOk result (λ s. string_bytes s ≡ letter.now ++ after_blanks (pos limit ∷ row.now)) }
 {
-    let mut text = opened(heap, letter, limit)?;
-    for i in 0..MOST_ZONES {
-        one_more(heap, &mut text, row[i])?;
-    }
+    let mut text = String::from_str(heap, letter)?;
+    add_numbers(&mut text, &[limit.into()])?;
+    add_numbers(&mut text, &row.map(|sensitivity| i64::from(sensitivity)))?;
     text.push_str("\n")?;
     Ok(text)
 }
@@ -91,48 +50,46 @@ pub fn command_line(heap: Global, command: &Command) -> Result<String, AllocErro
     ensures { IfOk result (λ s. string_bytes s ≡ text_of command.now) }
 {
     match *command {
-        Command::Tree { zones } => one(heap, "Z", u32::from(zones)),
-        Command::Table { zones } => one(heap, "Y", u32::from(zones)),
+        Command::Tree { zones } => text_line(heap, "Z", &[zones.into()]),
+        Command::Table { zones } => text_line(heap, "Y", &[zones.into()]),
         Command::Link {
             parent,
             to_parent,
             to_child,
-        } => three(heap, "K", u32::from(parent), to_parent, to_child),
+        } => text_line(
+            heap,
+            "K",
+            &[parent.into(), to_parent.into(), to_child.into()],
+        ),
         Command::Row {
             limit,
             sensitivities,
-        } => limit_and_row(heap, "R", limit, &sensitivities),
+        } => row_line(heap, "R", limit, &sensitivities),
         Command::Monitor {
             limit,
             sensitivities,
-        } => limit_and_row(heap, "V", limit, &sensitivities),
-        Command::HoldBack { line, kwh } => two(heap, "H", u32::from(line), kwh),
-        Command::Open => String::from_str(heap, "G\n"),
+        } => row_line(heap, "V", limit, &sensitivities),
+        Command::HoldBack { line, kwh } => text_line(heap, "H", &[line.into(), kwh.into()]),
+        Command::Open => text_line(heap, "G", &[]),
         Command::Offer {
             house,
             zone,
             price,
             quantity,
-        } => four(
+        } => text_line(
             heap,
             "O",
-            u32::from(house),
-            u32::from(zone),
-            price,
-            quantity,
+            &[house.into(), zone.into(), price.into(), quantity.into()],
         ),
         Command::Bid {
             house,
             zone,
             price,
             quantity,
-        } => four(
+        } => text_line(
             heap,
             "B",
-            u32::from(house),
-            u32::from(zone),
-            price,
-            quantity,
+            &[house.into(), zone.into(), price.into(), quantity.into()],
         ),
         Command::Transfer {
             house,
@@ -140,50 +97,41 @@ pub fn command_line(heap: Global, command: &Command) -> Result<String, AllocErro
             second,
             price,
             quantity,
-        } => five(
+        } => text_line(
             heap,
             "T",
-            u32::from(house),
-            u32::from(first),
-            u32::from(second),
-            price,
-            quantity,
+            &[
+                house.into(),
+                first.into(),
+                second.into(),
+                price.into(),
+                quantity.into(),
+            ],
         ),
         Command::Withdraw {
             house,
             list,
             number,
-        } => three(
-            heap,
-            "W",
-            u32::from(house),
-            u32::from(list),
-            u32::from(number),
-        ),
-        Command::Close { house } => one(heap, "C", u32::from(house)),
-        Command::Try { house } => one(heap, "Q", u32::from(house)),
-        Command::Settle { house } => one(heap, "S", u32::from(house)),
-        Command::Void { house } => one(heap, "X", u32::from(house)),
+        } => text_line(heap, "W", &[house.into(), list.into(), number.into()]),
+        Command::Close { house } => text_line(heap, "C", &[house.into()]),
+        Command::Try { house } => text_line(heap, "Q", &[house.into()]),
+        Command::Settle { house } => text_line(heap, "S", &[house.into()]),
+        Command::Void { house } => text_line(heap, "X", &[house.into()]),
         Command::Quantity {
             house,
             list,
             number,
             quantity,
-        } => four(
+        } => text_line(
             heap,
             "A",
-            u32::from(house),
-            u32::from(list),
-            u32::from(number),
-            quantity,
+            &[house.into(), list.into(), number.into(), quantity.into()],
         ),
-        Command::Lambda { house, lambda } => signed_second(heap, "L", u32::from(house), lambda),
-        Command::ShadowPrice { house, line, price } => three(
+        Command::Lambda { house, lambda } => text_line(heap, "L", &[house.into(), lambda.into()]),
+        Command::ShadowPrice { house, line, price } => text_line(
             heap,
             "M",
-            u32::from(house),
-            u32::from(line),
-            price,
+            &[house.into(), line.into(), price.into()],
         ),
     }
 }
