@@ -5,11 +5,11 @@ pub mod bounds;
 
 ghost use Rattle.std.specs.Prelude.{◌≡◌, ◌≤◌, MatchResult};
 ghost use Rattle.auction.specs.Refusals.{broken_number, broken_place, refusal_number, refusal_place, refusal_of};
-ghost use Rattle.auction.specs.Houses.{house_number};
+ghost use Rattle.auction.specs.Houses.{HouseNumbered, house_number};
 ghost use Rattle.auction.specs.declared.Refusal.TheVariants.{Sheet, Stranger};
 
 /// The rule of the sheet that is broken first, and where.
-#[derive(Clone, Copy)]
+#[derive(Clone, Copy, PartialEq, Eq, Debug)]
 pub enum Broken {
     /// An order takes a quantity that is not possible for it, or a withdrawn one takes something.
     Quantity { list: u8, number: u16 },
@@ -45,18 +45,18 @@ impl Broken {
         ensures { result ≡ broken_place self }
     {
         match self {
-            Broken::Quantity { list, number } => (list as u16, number),
+            Broken::Quantity { list, number } | Broken::Contentment { list, number } => {
+                (u16::from(list), number)
+            }
             Broken::Balance => (0, 0),
-            Broken::Flow { line } => (line as u16, 0),
-            Broken::ZonePrice { zone } => (zone as u16, 0),
-            Broken::Binding { line } => (line as u16, 0),
-            Broken::Contentment { list, number } => (list as u16, number),
+            Broken::Flow { line } | Broken::Binding { line } => (u16::from(line), 0),
+            Broken::ZonePrice { zone } => (u16::from(zone), 0),
         }
     }
 }
 
 /// Why a command is refused, in the order in which the questions are put.
-#[derive(Clone, Copy)]
+#[derive(Clone, Copy, PartialEq, Eq, Debug)]
 pub enum Refusal {
     /// The byte names no command.
     NoCommand,
@@ -142,28 +142,32 @@ impl From<Fault> for Refusal {
 }
 
 /// One of the two houses that share the pool.
-#[derive(Clone, Copy)]
+#[derive(Clone, Copy, PartialEq, Eq, Debug)]
 pub enum House {
     Zero,
     One,
 }
 
-impl House {
-    /// The house with this number; there are two.
-    pub fn numbered(number: u8) -> Result<House, Refusal>
-        ensures { MatchResult result (λ house. house_number house ≡ number) (λ refusal. (refusal ≡ Stranger) × (2 ≤ number)) }
-    {
+/// There are two houses; any other number is a stranger's.
+impl TryFrom<u8> for House {
+    type Error = Refusal;
+
+    ghost try_from_gives = { HouseNumbered };
+
+    fn try_from(number: u8) -> Result<House, Refusal> {
         match number {
             0 => Ok(House::Zero),
             1 => Ok(House::One),
             _ => Err(Refusal::Stranger),
         }
     }
+}
 
-    pub fn number(self) -> u8
-        ensures { result ≡ house_number self }
-    {
-        match self {
+impl From<House> for u8 {
+    ghost from_gives = { λ house number. number ≡ house_number house };
+
+    fn from(house: House) -> u8 {
+        match house {
             House::Zero => 0,
             House::One => 1,
         }

@@ -73,7 +73,7 @@ pub fn allow(phase: Phase, command: &Command) -> Result<Phase, Refusal>
     ensures { AllowedNext phase command.now result }
 {
     if let Some(number) = command.house() {
-        let _house = House::numbered(number)?;
+        House::try_from(number)?;
     }
     advance(phase, command)
 }

@@ -64,7 +64,7 @@ where
         ensures outcome { ComesOut N.Network X.OrderList Y.OrderList W.OrderList call self.old result self.new }
         ensures history { CarriesOn N.Network X.OrderList Y.OrderList W.OrderList call self.old result self.new }
     {
-        let house = House::numbered(call.house())?;
+        let house = House::try_from(call.house())?;
         self.handle(house, call)
     }
 }

@@ -31,7 +31,7 @@ pub(crate) fn withdraw_from<L: OrderList>(
     if number >= list.count() {
         return Err(Refusal::Missing);
     }
-    if list.house(number).number() != house.number() {
+    if list.house(number) != house {
         return Err(Refusal::NotOwn);
     }
     if !list.standing(number) {

@@ -80,7 +80,7 @@ impl<'a> Measure for Charge<'a> {
     ghost modest = { λ _. Prim.search rules };
 
     fn of<L: OrderList>(&self, list: &L, number: usize, quantity: u32) -> i64 {
-        if list.house(number).number() != self.house.number() {
+        if list.house(number) != self.house {
             return 0;
         }
         -proceeds(list, number, quantity, self.prices)
