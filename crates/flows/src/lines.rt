@@ -33,7 +33,7 @@ fn share<N: Network>(network: &N, line: usize, zone: usize, net: i32) -> i64
     ensures value { result ≡ sensitivity_at (N.Network.grid network.now) line zone *ℤ net }
     ensures bound { unsigned_abs result ≤ 1000 * 2 ^ 31 }
 {
-    times(network.sensitivity(line, zone) as i32, net)
+    times(i32::from(network.sensitivity(line, zone)), net)
 }
 
 /// The flow over a line, in thousandths of a kWh.

@@ -22,5 +22,5 @@ pub(crate) fn sum_of<F: Fn(usize) -> i64>(count: usize, term: F) -> i64
 pub(crate) fn times(a: i32, b: i32) -> i64
     ensures { result ≡ a *ℤ b }
 {
-    a as i64 * b as i64
+    i64::from(a) * i64::from(b)
 }

@@ -36,7 +36,7 @@ fn discount_at<N: Network>(network: &N, sheet: &Sheet, zone: usize, line: usize)
 {
     times(
         shadow_price_of(sheet, line),
-        network.sensitivity(line, zone) as i32,
+        i32::from(network.sensitivity(line, zone)),
     )
 }
 

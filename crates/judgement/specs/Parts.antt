@@ -31,15 +31,12 @@ Taken b d = (l n : ℕ) → n < length (list_at b l) → Takes (entry_at b l n) 
 unfoldable pub first_kwh : List Entry → ℕ → ℕ
 first_kwh es i = Σℕ i (λ n. standing_largest (entry es n))
 
--- what an order is worth at its quantity, feeds into a zone, and is paid
+-- what an order is worth at its quantity, and feeds into a zone
 abbrev pub entry_worth : Entry → ℕ → ℤ
 entry_worth e q = e.order.worth q
 
 abbrev pub entry_injection : ℕ → Entry → ℕ → ℤ
 entry_injection z e q = e.order.injection q z
-
-abbrev pub entry_proceeds : ZonePrices → Entry → ℕ → ℤ
-entry_proceeds prices e q = proceeds prices e.order q
 
 -- what an order of a house pays at given zone prices
 abbrev pub own_charge : ZonePrices → ℕ → Entry → ℕ → ℤ

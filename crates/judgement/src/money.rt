@@ -12,7 +12,7 @@ fn paid(price: i32, kwh: i64) -> i64
     requires { unsigned_abs kwh ≤ 2 ^ 31 }
     ensures { (result ≡ price *ℤ kwh) × (unsigned_abs price ≤ 2 ^ 31) }
 {
-    price as i64 * kwh
+    i64::from(price) * kwh
 }
 
 /// What an order is paid at these zone prices, in millionths of a cent.
@@ -27,8 +27,8 @@ pub(crate) fn proceeds<L: OrderList>(
     ensures bound { unsigned_abs result ≤ 4294967296 * quantity }
 {
     let mut total: i64 = 0;
-    for zone in 0..MOST_ZONES {
-        total += paid(prices[zone], list.injection(number, quantity, zone));
+    for (zone, price) in prices.iter().enumerate() {
+        total += paid(*price, list.injection(number, quantity, zone));
     }
     total
 }

@@ -1,5 +1,5 @@
 -- The first order of three lists, from the first of each list.
-use Rattle.std.proofs.Common.{ℕ, zero, suc, ◌<◌, List, length, Some, None, arith}
+use Rattle.std.proofs.Common.{◌≡◌, ℕ, zero, suc, ◌<◌, ◌≤◌, List, length, Some, None, Option, MatchOption, arith}
 use Rattle.auction.specs.Hours.{Entry, Dispatch}
 use Rattle.orders.specs.Books.{book_of}
 use Rattle.orders.specs.Reads.{entry}
@@ -33,3 +33,10 @@ module _ (x y z : List Entry) (d : Dispatch) (Q : Entry → ℕ → Type 0) wher
   in_none firsts seconds thirds (suc zero) m = seconds m
   in_none firsts seconds thirds (suc (suc zero)) m = thirds m
   in_none firsts seconds thirds (suc (suc (suc l))) m = λ h. absurd (none_left m h)
+
+-- what `find` over the numbers below the end says
+pub first_failing : (P : ℕ → Type 0) (n end : ℕ) (r : Option ℕ)
+    → MatchOption r ((k : ℕ) → 0 ≤ k → k < n → k < end → P k) (λ i. (0 ≤ i) × (i < n) × (i < end → P i → ⊥) × ((k : ℕ) → 0 ≤ k → k < i → k < end → P k))
+    → n ≡ end → FirstFailing P end r
+first_failing P n end None all same = λ k h. all k (omega arith) (omega arith) h
+first_failing P n end (Some i) (from, to, fails, before) same = (omega arith, (λ k h. before k (omega arith) h (omega arith)), fails (omega arith))

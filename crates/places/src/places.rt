@@ -19,12 +19,7 @@ use sheets::Sheet;
 fn first_in<L: OrderList, R: Rule>(list: &L, index: usize, sheet: &Sheet, rule: &R) -> Option<usize>
     ensures { FirstFailing (λ n. R.Rule.asks rule.now (entry (L.OrderList.entries list.now) n) (dispatch_of sheet.now index n)) (length (L.OrderList.entries list.now)) result }
 {
-    for number in 0..list.count() {
-        if !rule.met(list, number, sheet.quantity(index, number)) {
-            return Some(number);
-        }
-    }
-    None
+    (0..list.count()).find(|number| !rule.met(list, *number, sheet.quantity(index, *number)))
 }
 
 /// The first order of all three lists that does not meet the rule, by list and number.

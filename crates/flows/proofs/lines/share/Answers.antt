@@ -1,4 +1,4 @@
-use Rattle.std.proofs.Common.{◌≡◌, ◌*◌, ◌^◌, ◌≤◌, ℤ, ◌*ℤ◌, nat_abs, sym, ◌∙◌, subst, arith, w16, w32, w64, to_z, of_z}
+use Rattle.std.proofs.Common.{◌≡◌, ◌*◌, ◌^◌, ◌≤◌, ℤ, ◌*ℤ◌, nat_abs, sym, ◌∙◌, subst, arith, w32, w64, to_z, of_z}
 use borrow.Author.Differences.{ints}
 use Rattle.std.proofs.lemmas.Int.{to_z-of_z}
 use Rattle.auction.specs.Grids.{sensitivity_at}
@@ -7,7 +7,8 @@ use Rattle.flows.proofs.lines.share.Goals as goal
 
 pub returns : goal.returns
 returns g c =
-    let sens : to_z w32 (of_z w32 (to_z w16 (of_z w16 c.sensitivity.result))) ≡ c.sensitivity.result = omega (arith, ints) in
+    let wide = c.from.ensures in
+    let sens : to_z w32 (of_z w32 c.from.result) ≡ c.sensitivity.result = omega (arith, ints) in
     let net : to_z w32 (of_z w32 c.args.net) ≡ c.args.net = omega (arith, ints) in
     let s = sensitivity_at (g.N.Network.grid c.args.network.now) c.args.line c.args.zone in
     let value : to_z w64 (of_z w64 c.times.result) ≡ s *ℤ c.args.net = to_z-of_z w64 _ (record { sfits = c.times.type_inv }) ∙ c.times.ensures ∙ (λ i. (sens ∙ c.sensitivity.ensures) i *ℤ net i) in

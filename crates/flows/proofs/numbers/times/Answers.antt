@@ -1,17 +1,19 @@
-use Rattle.std.proofs.Common.{◌≡◌, ◌*ℤ◌, sym, ap, ◌∙◌, subst, arith, w32, w64, SFits, to_z, of_z}
+use Rattle.std.proofs.Common.{◌≡◌, ◌*ℤ◌, sym, ap, ◌∙◌, subst, arith, w64, SFits, to_z, of_z}
 use borrow.Author.Differences.{ints}
 use Rattle.std.proofs.lemmas.Int.{to_z-of_z}
 use Rattle.flows.proofs.Products.{product_fits}
 use Rattle.flows.proofs.numbers.times.Goals as goal
 
 -- the operands as they were passed
-same : (c : goal.Start) → to_z w64 (of_z w64 (to_z w32 (of_z w32 c.args.a))) *ℤ to_z w64 (of_z w64 (to_z w32 (of_z w32 c.args.b))) ≡ c.args.a *ℤ c.args.b
+same : (c : goal.After-from-2) → to_z w64 (of_z w64 c.from.result) *ℤ to_z w64 (of_z w64 c.from-2.result) ≡ c.args.a *ℤ c.args.b
 same c =
-    let a : to_z w64 (of_z w64 (to_z w32 (of_z w32 c.args.a))) ≡ c.args.a = omega (arith, ints) in
-    let b : to_z w64 (of_z w64 (to_z w32 (of_z w32 c.args.b))) ≡ c.args.b = omega (arith, ints) in
+    let first = c.from.ensures in
+    let second = c.from-2.ensures in
+    let a : to_z w64 (of_z w64 c.from.result) ≡ c.args.a = omega (arith, ints) in
+    let b : to_z w64 (of_z w64 c.from-2.result) ≡ c.args.b = omega (arith, ints) in
     λ i. a i *ℤ b i
 
-fits : (c : goal.Start) → SFits w64 (c.args.a *ℤ c.args.b)
+fits : (c : goal.After-from-2) → SFits w64 (c.args.a *ℤ c.args.b)
 fits c = product_fits c.args.a c.args.b (omega (arith, ints)) (omega (arith, ints))
 
 pub overflow_mul-result : goal.overflow_mul-result

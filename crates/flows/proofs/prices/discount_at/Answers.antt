@@ -1,4 +1,4 @@
-use Rattle.std.proofs.Common.{◌≡◌, ◌≤◌, ℤ, pos, ◌*ℤ◌, nat_abs, sym, ◌∙◌, subst, arith, w16, w32, w64, to_z, of_z}
+use Rattle.std.proofs.Common.{◌≡◌, ◌≤◌, ℤ, pos, ◌*ℤ◌, nat_abs, sym, ◌∙◌, subst, arith, w32, w64, to_z, of_z}
 use borrow.Author.Differences.{ints}
 use Rattle.std.proofs.lemmas.Int.{to_z-of_z}
 use Rattle.auction.specs.Grids.{sensitivity_at}
@@ -8,7 +8,8 @@ use Rattle.flows.proofs.prices.discount_at.Goals as goal
 
 pub returns : goal.returns
 returns g c =
-    let sens : to_z w32 (of_z w32 (to_z w16 (of_z w16 c.sensitivity.result))) ≡ c.sensitivity.result = omega (arith, ints) in
+    let wide = c.from.ensures in
+    let sens : to_z w32 (of_z w32 c.from.result) ≡ c.sensitivity.result = omega (arith, ints) in
     let shadow = (prices_of c.args.sheet.now).shadow c.args.line in
     let s = sensitivity_at (g.N.Network.grid c.args.network.now) c.args.line c.args.zone in
     let price : to_z w32 (of_z w32 c.shadow_price_of.result) ≡ pos shadow = omega (arith, ints) in
