@@ -29,6 +29,7 @@ impl ZoneWish {
         if self.zone as usize >= zones {
             return Err(Fault::Missing);
         }
+        // A row is written with its fields' names, here and for a transfer: five numbers in a call would be easy to swap.
         Row {
             house,
             standing: true,

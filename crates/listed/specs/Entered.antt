@@ -1,6 +1,8 @@
 -- The entries that rows mean, read and changed as the rows are.
-use Rattle.std.specs.Prelude.{◌≡◌, ℕ, zero, suc, ◌+◌, ◌<◌, ◌≤◌, true, cond, List, [], ◌∷◌, ◌++◌, map, length, Some, None, Ok, Err, Option, Result, MatchOption, slice_index_or, refl}
+use Rattle.std.specs.Prelude.{◌≡◌, ℕ, zero, suc, ◌+◌, ◌<◌, ◌≤◌, true, cond, List, [], ◌∷◌, ◌++◌, map, length, Some, None, Ok, Err, Option, Result, MatchOption, refl}
 use Rattle.std.proofs.Common.{sym, ap, subst, ◌∙◌, arith}
+use Rattle.std.specs.List.{All}
+use Rattle.std.proofs.lemmas.List.Elements.{All-head, All-tail}
 use Rattle.auction.specs.Bounds.{most_orders, most_kwh}
 use Rattle.auction.specs.Sums.{Σℕ}
 use Rattle.std.proofs.lemmas.List.{length-map, length-take, map_push, get_or_past}
@@ -16,8 +18,9 @@ use Rattle.orders.specs.Reads.{entry, standing_largest, standing_kwh, without, P
 use Rattle.rows.specs.declared.row.Row.{Row}
 use Rattle.rows.specs.declared.table.Rows.{Rows}
 use Rattle.rows.specs.Bounds.{InRange}
-use Rattle.rows.specs.Kwh.{no_row, row_kwh, rows_kwh}
+use Rattle.rows.specs.Kwh.{row_kwh, rows_kwh}
 use Rattle.rows.specs.Rows.{Ranged, used, row_at, rows_without, entered, Room}
+use Rattle.rows.proofs.Held.{row_ranged}
 use Rattle.listed.specs.Entries.{ByNumbers, order_by, entry_by, NoneEntered, RowEntered}
 
 -- the largest quantity is the quantity of the row
@@ -45,12 +48,6 @@ entry_past es n h = get_or_past es n no_entry h
 pub entry_none : (m : ByNumbers) (rs : List Row) (n : ℕ) → None ≡ row_at rs n → entry (map (entry_by m) rs) n ≡ no_entry
 entry_none m rs n h = entry_past (map (entry_by m) rs) n (outside m rs n h)
 
--- a row that is there is in range
-pub in_range_there : (rs : List Row) → ((k : ℕ) → k < length rs → Ranged (slice_index_or rs k no_row)) → (n : ℕ) (r : Row) → Some r ≡ row_at rs n → Ranged r
-in_range_there [] ranged n r h = absurd (let z : ◌≡◌ {A = ℕ} 0 1 = cc in omega arith)
-in_range_there (x ∷ rs) ranged zero r h = let e : x ≡ r = cc in subst Ranged e (ranged 0 (omega arith))
-in_range_there (x ∷ rs) ranged (suc n) r h = in_range_there rs (λ k l. ranged (suc k) (omega arith)) n r h
-
 -- a sum begins with its first term
 Σℕ_first : (n : ℕ) (f : ℕ → ℕ) → Σℕ (suc n) f ≡ f 0 + Σℕ n (λ i. f (suc i))
 unfolding Σℕ
@@ -67,7 +64,7 @@ kwh_entries m s (r ∷ rs) =
 
 -- rows are few, and so are the kWh that stand in them
 pub few_entries : (m : ByNumbers) (t : Rows) → length (map (entry_by m) (used t)) ≤ most_orders
-few_entries m t = simp (length-map, length-take) (omega arith)
+few_entries m t = simp (length-map, length-take) (omega (arith, t.rows.few))
 
 pub modest_entries : (m : ByNumbers) → Sized m → (t : Rows) → standing_kwh (map (entry_by m) (used t)) ≤ most_kwh
 modest_entries m s t = let e = kwh_entries m s (used t) in omega (arith, t.summed, t.modest)
@@ -86,10 +83,10 @@ housed_entries m [] n = omega arith
 housed_entries m (r ∷ rs) zero = house_below r.house
 housed_entries m (r ∷ rs) (suc n) = housed_entries m rs n
 
-pub sound_entries : (m : ByNumbers) → ((first second price quantity : ℕ) → InRange price quantity → Sound (m first second price quantity)) → (rs : List Row) → ((k : ℕ) → k < length rs → Ranged (slice_index_or rs k no_row)) → (n : ℕ) → n < length (map (entry_by m) rs) → Sound (entry (map (entry_by m) rs) n).order
+pub sound_entries : (m : ByNumbers) → ((first second price quantity : ℕ) → InRange price quantity → Sound (m first second price quantity)) → (rs : List Row) → All Ranged rs → (n : ℕ) → n < length (map (entry_by m) rs) → Sound (entry (map (entry_by m) rs) n).order
 sound_entries m s [] ranged n h = absurd (omega arith)
-sound_entries m s (r ∷ rs) ranged zero h = s r.first r.second r.price r.quantity (ranged 0 (omega arith))
-sound_entries m s (r ∷ rs) ranged (suc n) h = sound_entries m s rs (λ k l. ranged (suc k) (omega arith)) n (omega arith)
+sound_entries m s (r ∷ rs) ranged zero h = s r.first r.second r.price r.quantity (All-head Ranged r rs ranged)
+sound_entries m s (r ∷ rs) ranged (suc n) h = sound_entries m s rs (All-tail Ranged r rs ranged) n (omega arith)
 
 -- room among the rows is a place left among the entries, and the other way round
 place_from_room : (m : ByNumbers) → Sized m → (rs : List Row) (elsewhere kWh : ℕ) → Room rs elsewhere kWh → PlaceLeft (map (entry_by m) rs) elsewhere kWh
@@ -120,15 +117,7 @@ module _ (m : ByNumbers) (sized : Sized m) (before after : List Row) (house : Ho
   answered_entries found fitting f k (Err OutOfRange) a = absurd (a.0.1 ranged)
   answered_entries found fitting f k (Err NoPlace) a = ((f, k, λ place. a.0.2 (room_from_place m sized before elsewhere row.quantity (subst (λ x. PlaceLeft (map (entry_by m) before) elsewhere x) (sym quantity_same) place))), ap (map (entry_by m)) a.1)
 
--- ---- an order that is asked for by its number
 -- a row that is read is that of an entry
-pub row_entered : (m : ByNumbers) (rs : List Row) → ((k : ℕ) → k < length rs → Ranged (slice_index_or rs k no_row)) → (n : ℕ) (r : Option Row) → r ≡ row_at rs n → MatchOption r (NoneEntered (map (entry_by m) rs) n) (RowEntered m (map (entry_by m) rs) n)
-row_entered m rs ranged n (Some r) h = record { there = inside m rs n r h; ranged = in_range_there rs ranged n r h; means = entry_some m rs n r h }
+pub row_entered : (m : ByNumbers) (rs : List Row) → All Ranged rs → (n : ℕ) (r : Option Row) → r ≡ row_at rs n → MatchOption r (NoneEntered (map (entry_by m) rs) n) (RowEntered m (map (entry_by m) rs) n)
+row_entered m rs ranged n (Some r) h = record { there = inside m rs n r h; ranged = row_ranged rs ranged n r h; means = entry_some m rs n r h }
 row_entered m rs ranged n None h = record { past = outside m rs n h; nothing = entry_none m rs n h }
-
--- a row in range makes an order
-pub order_read : {K : Type 0} (meaning : K → Order) (m : ByNumbers) (es : List Entry) (n : ℕ) (r : Row) → RowEntered m es n r → (o : Option K)
-    → MatchOption o (Ranged r → ⊥) (λ k. Ranged r × (meaning k ≡ order_by m r))
-    → MatchOption o (NoneEntered es n) (λ k. (n < length es) × (meaning k ≡ (entry es n).order))
-order_read meaning m es n r read (Some k) made = (read.there, made.1 ∙ sym (ap (λ (e : Entry). e.order) read.means))
-order_read meaning m es n r read None never = absurd (never read.ranged)

@@ -5,7 +5,6 @@ ghost use Rattle.orders.specs.Reads.{entry};
 ghost use Rattle.listed.specs.Entries.{NoneEntered, RowEntered, entries_by};
 ghost use Rattle.rows.specs.Rows.{used};
 ghost use Rattle.listed.specs.Entered.{few_entries, modest_entries, housed_entries, sound_entries};
-ghost use Rattle.rows.proofs.Held.{in_range_used};
 
 use super::Kind;
 use auction::bounds::MOST_ZONES;
@@ -31,6 +30,7 @@ impl<K: Kind> Listed<K> {
         }
     }
 
+    // These clauses name `entries_by` where the list's own `entries`, named through its impl, would be longer.
     /// The row with this number, if it was entered.
     fn row(&self, number: usize) -> Option<Row>
         ensures { MatchOption result (NoneEntered (entries_by K.Kind.meant self.now.rows) number) (RowEntered K.Kind.meant (entries_by K.Kind.meant self.now.rows) number) }
@@ -64,7 +64,7 @@ impl<K: Kind> OrderList for Listed<K> {
 
     ghost housed = { λ s n. housed_entries K.Kind.meant (used s.rows) n };
 
-    ghost sound = { λ s n. sound_entries K.Kind.meant K.Kind.sound (used s.rows) (in_range_used s.rows) n };
+    ghost sound = { λ s n. sound_entries K.Kind.meant K.Kind.sound (used s.rows) s.rows.ranged n };
 
     fn count(&self) -> usize {
         self.rows.count()

@@ -1,24 +1,19 @@
 -- What is read of rows, and how they change.
-use Rattle.std.specs.Prelude.{ℕ, zero, suc, ◌+◌, ◌<◌, ◌≤◌, Bool, true, false, List, [], ◌∷◌, length, take, Some, None, Option}
+use Rattle.std.specs.Prelude.{ℕ, zero, suc, ◌+◌, ◌<◌, ◌≤◌, Bool, true, false, List, [], ◌∷◌, length, Option, slice_get}
 use Rattle.rows.specs.declared.row.Row.{Row}
 use Rattle.rows.specs.declared.table.Rows.{Rows}
+use Rattle.filled.specs.Lists.{kept}
 use Rattle.auction.specs.Bounds.{most_orders, most_kwh}
-use Rattle.rows.specs.Bounds.{InRange}
+pub use Rattle.rows.specs.Kwh.{Ranged}
 use Rattle.rows.specs.Kwh.{rows_kwh}
-
--- its price and quantity are those of an order
-abbrev pub Ranged : Row → Type 0
-Ranged r = InRange r.price r.quantity
 
 -- the rows that are in use
 abbrev pub used : Rows → List Row
-used rs = take rs.count rs.rows
+used rs = kept rs.rows
 
 -- the row with this number, if there is one
 abbrev pub row_at : List Row → ℕ → Option Row
-row_at [] n = None
-row_at (r ∷ rs) zero = Some r
-row_at (r ∷ rs) (suc n) = row_at rs n
+row_at rs n = slice_get rs n
 
 -- a row that stands, or no longer does
 abbrev pub standing_so : Bool → Row → Row

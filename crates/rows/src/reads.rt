@@ -10,7 +10,7 @@ impl Rows {
     pub fn count(&self) -> usize
         ensures { result ≡ length (used self.now) }
     {
-        self.count
+        self.rows.len()
     }
 
     /// The kWh that the standing orders may take at most.
@@ -24,9 +24,6 @@ impl Rows {
     pub fn row(&self, number: usize) -> Option<Row>
         ensures { result ≡ row_at (used self.now) number }
     {
-        if number >= self.count {
-            return None;
-        }
-        Some(self.rows[number])
+        self.rows.get(number)
     }
 }

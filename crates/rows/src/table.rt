@@ -1,23 +1,21 @@
 //! The rows of a list.
 
-ghost use Rattle.std.specs.Prelude.{◌≡◌, ℕ, ◌<◌, ◌≤◌, length, take, slice_index_or};
-ghost use Rattle.auction.specs.Bounds.{most_orders, most_price, most_kwh};
-ghost use Rattle.rows.specs.Kwh.{rows_kwh, no_row};
+ghost use Rattle.std.specs.Prelude.{◌≡◌, ◌≤◌};
+ghost use Rattle.std.specs.List.{All};
+ghost use Rattle.auction.specs.Bounds.{most_kwh};
+ghost use Rattle.filled.specs.Lists.{kept};
+ghost use Rattle.rows.specs.Kwh.{Ranged, rows_kwh};
 
 use super::Row;
 use auction::bounds::MOST_ORDERS;
+use filled::Filled;
 
-/// The orders that were entered, in their order, and the kWh that the standing ones may take at most. The places past the count hold any row.
+/// The orders that were entered, in their order, and the kWh that the standing ones may take at most.
 #[derive(Drop)]
 pub struct Rows {
-    pub(crate) count: usize,
+    pub(crate) rows: Filled<Row, MOST_ORDERS>,
     pub(crate) standing: u32,
-    pub(crate) rows: [Row; MOST_ORDERS],
-    ghost few: { count ≤ most_orders },
-    ghost full: { length rows ≡ most_orders },
-    ghost cheap: { ((k : ℕ) → k < count → (slice_index_or rows k no_row).price ≤ most_price) },
-    ghost some: { ((k : ℕ) → k < count → 0 < (slice_index_or rows k no_row).quantity) },
-    ghost small: { ((k : ℕ) → k < count → (slice_index_or rows k no_row).quantity ≤ most_kwh) },
-    ghost summed: { standing ≡ rows_kwh (take count rows) },
+    pub ghost ranged: { All Ranged (kept rows) },
+    ghost summed: { standing ≡ rows_kwh (kept rows) },
     ghost modest: { standing ≤ most_kwh },
 }

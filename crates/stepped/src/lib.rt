@@ -26,15 +26,15 @@ mod tests {
     #[test]
     fn two_steps(rt: HostRuntime) {
         let mut bids = SteppedBids::new();
-        assert!(rt; bids.enter(House::One, WISH, 2, 0) == Err(Fault::Missing));
-        assert!(rt; bids.enter(House::One, WISH, 3, 0) == Ok(()));
-        assert!(rt; bids.worth(0, 10) == 750);
+        assert_eq!(rt; bids.enter(House::One, WISH, 2, 0), Err(Fault::Missing));
+        assert_eq!(rt; bids.enter(House::One, WISH, 3, 0), Ok(()));
+        assert_eq!(rt; bids.worth(0, 10), 750);
         let mut prices = [0i32; MOST_ZONES];
         prices[2] = 60_000;
         assert!(rt; bids.content(0, 5, &prices));
         assert!(rt; !bids.content(0, 6, &prices));
         bids.withdraw(0);
-        assert!(rt; bids.standing_kwh() == 0);
+        assert_eq!(rt; bids.standing_kwh(), 0);
     }
 
     // An offer gains the zone price less its own, a bid its own less the zone price.
@@ -43,12 +43,15 @@ mod tests {
         let mut prices = [0i32; MOST_ZONES];
         prices[2] = 60_000;
         let mut offers = Offers::new();
-        assert!(rt; offers.enter(House::Zero, WISH, 24, 0) == Ok(()));
-        assert!(rt; offers.injection(0, 4, 2) == 4);
+        assert_eq!(rt; offers.enter(House::Zero, WISH, 24, 0), Ok(()));
+        assert_eq!(rt; offers.injection(0, 4, 2), 4);
         assert!(rt; !offers.content(0, 1, &prices));
         let mut bids = Bids::new();
-        assert!(rt; bids.enter(House::Zero, WISH, 24, 9_999_991) == Err(Fault::NoPlace));
-        assert!(rt; bids.enter(House::Zero, WISH, 24, 9_999_990) == Ok(()));
+        assert_eq!(rt;
+            bids.enter(House::Zero, WISH, 24, 9_999_991),
+            Err(Fault::NoPlace)
+        );
+        assert_eq!(rt; bids.enter(House::Zero, WISH, 24, 9_999_990), Ok(()));
         assert!(rt; bids.content(0, 10, &prices));
     }
 
@@ -65,8 +68,8 @@ mod tests {
             quantity: 10,
         };
         let mut transfers = Transfers::new();
-        assert!(rt; transfers.enter(House::One, wish, 3, 0) == Ok(()));
-        assert!(rt; transfers.injection(0, 3, 1) == -3);
+        assert_eq!(rt; transfers.enter(House::One, wish, 3, 0), Ok(()));
+        assert_eq!(rt; transfers.injection(0, 3, 1), -3);
         assert!(rt; transfers.content(0, 0, &prices));
         prices[1] = 160_000;
         assert!(rt; transfers.content(0, 7, &prices));

@@ -21,6 +21,7 @@ fn steps_worth(terms: Terms, quantity: u32) -> i64
     let first = quantity.min(terms.quantity / 2);
     let rest = quantity - first;
     let low = terms.price / 2;
+    // With `from` in place of `as` the prover loses the bounds of the two products.
     (terms.price as u64 * first as u64 + low as u64 * rest as u64) as i64
 }
 

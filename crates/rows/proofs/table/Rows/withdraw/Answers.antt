@@ -1,10 +1,40 @@
-use Rattle.std.proofs.Common.{sym, arith}
-use Rattle.rows.specs.Kwh.{no_row}
-use Rattle.rows.proofs.Held.{without_past, without_fallen}
+use Rattle.std.proofs.Common.{sym, ◌∙◌, refl, arith, rules}
+use Rattle.std.proofs.lemmas.List.Elements.{All-same, All-set}
+use Rattle.filled.specs.Lists.{kept}
+use Rattle.rows.specs.Kwh.{Ranged}
+use Rattle.rows.specs.Rows.{withdrawn}
+use Rattle.rows.proofs.Held.{row_there, row_ranged, without_none, without_set, without_fallen, kwh_fallen, kwh_after, set_done}
 use Rattle.rows.proofs.table.Rows.withdraw.Goals as goal
 
-pub returns-then-number-self : goal.returns-then-number-self
-returns-then-number-self c = sym (without_past c.args.self.now.count c.args.self.now.rows c.args.number (omega arith))
+pub returns-in_default : goal.returns-in_default
+returns-in_default c = sym (without_none (kept c.args.self.now.rows) c.args.number (search rules))
+
+pub overflow_sub-self : goal.overflow_sub-self
+overflow_sub-self c =
+    let row = c.in-Some.row in
+    let left = kwh_fallen (kept c.args.self.now.rows) c.args.number row (withdrawn row) c.in-Some.ensures c.if-row.true refl in
+    omega arith
+
+-- whatever else stands in the row that is written
+pub invariant_of-self : goal.invariant_of-self
+invariant_of-self c =
+    let before = c.args.self.now in
+    let rows = kept before.rows in
+    let there = row_there rows c.args.number c.in-Some.row c.in-Some.ensures in
+    let done = set_done rows (kept c.set.new.self) c.args.number _ _ c.set.result there c.set.ensures in
+    let left = kwh_after rows (kept c.set.new.self) c.args.number c.in-Some.row _ done c.in-Some.ensures c.if-row.true refl in
+    let ranged = row_ranged rows before.ranged c.args.number c.in-Some.row c.in-Some.ensures in
+    record {
+      ranged = All-same Ranged (kept c.set.new.self) _ done (All-set Ranged rows c.args.number _ ranged before.ranged);
+      summed = omega arith;
+      modest = omega arith;
+    }
+
+pub returns-then-row : goal.returns-then-row
+returns-then-row c =
+    let rows = kept c.args.self.now.rows in
+    let there = row_there rows c.args.number c.in-Some.row c.in-Some.ensures in
+    set_done rows (kept c.set.new.self) c.args.number _ _ c.set.result there c.set.ensures ∙ without_set rows c.args.number c.in-Some.row c.in-Some.ensures
 
 pub returns-else-row : goal.returns-else-row
-returns-else-row c = sym (without_fallen c.args.self.now.count c.args.self.now.rows c.args.number no_row c.if-row.false)
+returns-else-row c = sym (without_fallen (kept c.args.self.now.rows) c.args.number c.in-Some.row c.in-Some.ensures c.if-row.false)
