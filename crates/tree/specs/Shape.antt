@@ -10,7 +10,7 @@ use Rattle.auction.specs.Bounds.{most_zones, most_lines, most_kwh}
 use Rattle.auction.specs.Grids.{Line, no_line, line_count, limit_at, sensitivity_at}
 use Rattle.tree.specs.declared.grown.Link.{Link}
 use Rattle.tree.specs.declared.grown.Tree.{Tree}
-use Rattle.tree.specs.Links.{most_links, no_link, zone_count, Descends}
+use Rattle.tree.specs.Links.{no_link, zone_count, Descends}
 use Rattle.tree.specs.Trees.{links_of, share, line_to_parent, line_to_child, tree_line, tree_lines, tree_grid, TreeShaped, Shaped}
 use Rattle.tree.specs.Descent.{Rooted, share_below, share_elsewhere, share_in_range}
 

@@ -1,4 +1,4 @@
-use Rattle.std.proofs.Common.{◌≡◌, ◌-◌, inl, inr, take, arith}
+use Rattle.std.proofs.Common.{◌-◌, take, arith}
 use Rattle.std.proofs.lemmas.List.{get_or_past}
 use Rattle.auction.specs.Grids.{no_line}
 use Rattle.network.specs.Rows.{lines_in}
