@@ -62,6 +62,7 @@ fn within_limit<N: Network>(network: &N, line: usize, nets: &[i32; MOST_ZONES]) 
 pub fn lines_within_limits<N: Network>(network: &N, nets: &[i32; MOST_ZONES]) -> Result<(), Broken>
     ensures { Each Flow (λ l. WithinLimit (limit_at (N.Network.grid network.now) l) (array_flow (N.Network.grid network.now) nets.now l)) (line_count (N.Network.grid network.now)) result }
 {
+    // A loop returns the refusal at once; `find` would leave the line to be matched again.
     for line in 0..network.lines() {
         if !within_limit(network, line, nets) {
             return Err(Broken::Flow { line: line as u8 });
@@ -88,6 +89,7 @@ pub fn lines_bind<N: Network>(
 ) -> Result<(), Broken>
     ensures { Each Binding (λ l. Binds (limit_at (N.Network.grid network.now) l) ((prices_of sheet.now).shadow l) (array_flow (N.Network.grid network.now) nets.now l)) (line_count (N.Network.grid network.now)) result }
 {
+    // A loop returns the refusal at once; `find` would leave the line to be matched again.
     for line in 0..network.lines() {
         if !binds(network, line, nets, sheet) {
             return Err(Broken::Binding { line: line as u8 });

@@ -79,6 +79,7 @@ pub fn zone_prices<N: Network>(network: &N, sheet: &Sheet) -> Result<[i32; MOST_
     ensures { Priced (N.Network.grid network.now) (prices_of sheet.now) result }
 {
     let mut prices = [0i32; MOST_ZONES];
+    // By index: the places beyond the network's zones stay 0.
     for zone in 0..network.zones() {
         let price = price_of(network, sheet, zone);
         if !in_range(price) {

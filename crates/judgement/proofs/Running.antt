@@ -1,23 +1,12 @@
 -- A running sum over the orders of a list, and how large it can get.
-use Rattle.std.proofs.Common.{◌≡◌, ℕ, zero, suc, ◌+◌, ◌-◌, ◌*◌, ◌^◌, ◌≤◌, Bool, true, false, cond, List, length, ℤ, pos, ◌+ℤ◌, nat_abs, MatchBool, sym, refl, ap, ◌∙◌, subst, le_trans, mul-le-mul, mul-le-mul_left, mul-add, add-one, arith, w64, SFits}
+use Rattle.std.proofs.Common.{◌≡◌, ℕ, suc, ◌+◌, ◌*◌, ◌^◌, ◌≤◌, Bool, true, false, cond, List, length, ℤ, pos, ◌+ℤ◌, nat_abs, MatchBool, sym, refl, ap, ◌∙◌, subst, le_trans, mul-le-mul, mul-le-mul_left, mul-add, add-one, arith, w64, SFits}
 use borrow.Author.Differences.{ints}
 use Rattle.auction.specs.Sums.{Σ, Σℕ}
 use Rattle.auction.specs.Orders.{Order, Possible, Sound}
 use Rattle.auction.specs.Hours.{Entry, Takes}
 use Rattle.orders.specs.Reads.{entry, standing_largest, standing_kwh}
+use Rattle.flows.proofs.Summing.{Σℕ_within}
 use Rattle.judgement.specs.Parts.{first_sum, first_kwh, Term}
-
--- a sum of fewer natural numbers is not larger
-Σℕ_mono : (f : ℕ → ℕ) (i k : ℕ) → Σℕ i f ≤ Σℕ (k + i) f
-unfolding Σℕ
-Σℕ_mono f i zero = subst (λ (n : ℕ). Σℕ i f ≤ Σℕ n f) (zero_add' i) (omega arith)
-  where
-    zero_add' : (i : ℕ) → i ≡ 0 + i
-    zero_add' i = omega arith
-Σℕ_mono f i (suc k) = let h = Σℕ_mono f i k in subst (λ (n : ℕ). Σℕ i f ≤ Σℕ n f) (later i k) (omega arith)
-  where
-    later : (i k : ℕ) → suc (k + i) ≡ suc k + i
-    later i k = omega arith
 
 -- what an order takes is possible for it, and not more than counts for it
 takes_possible : (s : Bool) (o : Order) (q : ℕ) → MatchBool s (Possible o q) (q ≡ 0) → Possible o q
@@ -58,12 +47,9 @@ module _ (es : List Entry) (qs : ℕ → ℕ) (f : Entry → ℕ → ℤ) (k : �
   pub running_bound : (i m : ℕ) (total : ℤ) → Running es qs f k i total → i ≤ length es → standing_kwh es ≤ m → nat_abs total ≤ k * m
   unfolding first_kwh standing_kwh
   running_bound i m total so_far within modest =
-      let fewer : first_kwh es i ≤ standing_kwh es = subst (λ (n : ℕ). Σℕ i (λ n. standing_largest (entry es n)) ≤ Σℕ n (λ n. standing_largest (entry es n))) (rest i (length es) within) (Σℕ_mono (λ n. standing_largest (entry es n)) i (length es - i)) in
+      let fewer : first_kwh es i ≤ standing_kwh es = Σℕ_within (λ n. standing_largest (entry es n)) i (length es) within in
       let all : k * first_kwh es i ≤ k * m = mul-le-mul_left k (le_trans fewer modest) in
       omega arith
-    where
-      rest : (i n : ℕ) → i ≤ n → n - i + i ≡ n
-      rest i n h = omega arith
 
   -- one turn of a loop, with the new total as the program has it
   pub running_next : (i : ℕ) (total term new : ℤ) → Running es qs f k i total → Term es qs f k i term → Takes (entry es i) (qs i) → new ≡ total +ℤ term → Running es qs f k (i + 1) new

@@ -1,7 +1,5 @@
 //! The judgement of a sheet: the rules in their order, and what an accepted sheet amounts to.
 
-ghost use Rattle.std.specs.Prelude.{◌≤◌};
-ghost use Rattle.auction.specs.Bounds.{most_zones};
 ghost use Rattle.orders.specs.Books.{booked};
 ghost use Rattle.orders.specs.Reads.{array_prices};
 ghost use Rattle.sheets.specs.Proposals.{dispatch_of, prices_of};
@@ -20,16 +18,17 @@ use places::{orders_content, quantities_possible};
 use sheets::Sheet;
 
 /// The net injection of each zone, 0 for a zone that the network lacks.
-fn net_injections<X: OrderList, Y: OrderList, W: OrderList>(
-    zones: usize,
+fn net_injections<N: Network, X: OrderList, Y: OrderList, W: OrderList>(
+    network: &N,
     book: &Book<X, Y, W>,
     sheet: &Sheet,
 ) -> [i32; MOST_ZONES]
-    requires { (zones ≤ most_zones) × (Taken (booked X.OrderList Y.OrderList W.OrderList book.now) (dispatch_of sheet.now)) }
-    ensures { Nets zones (booked X.OrderList Y.OrderList W.OrderList book.now) (dispatch_of sheet.now) result }
+    requires { Taken (booked X.OrderList Y.OrderList W.OrderList book.now) (dispatch_of sheet.now) }
+    ensures { Nets (N.Network.grid network.now).zones (booked X.OrderList Y.OrderList W.OrderList book.now) (dispatch_of sheet.now) result }
 {
     let mut nets = [0i32; MOST_ZONES];
-    for zone in 0..zones {
+    // By index: the places beyond the network's zones stay 0.
+    for zone in 0..network.zones() {
         nets[zone] = sum_of(book, sheet, &Injection { zone }) as i32;
     }
     nets
@@ -44,7 +43,7 @@ fn rules<N: Network, X: OrderList, Y: OrderList, W: OrderList>(
     ensures { Ruled (N.Network.grid network.now) (booked X.OrderList Y.OrderList W.OrderList book.now) (dispatch_of sheet.now) (prices_of sheet.now) result }
 {
     quantities_possible(book, sheet)?;
-    let nets = net_injections(network.zones(), book, sheet);
+    let nets = net_injections(network, book, sheet);
     if !in_balance(&nets) {
         return Err(Broken::Balance);
     }

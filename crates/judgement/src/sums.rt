@@ -18,6 +18,7 @@ fn sum_in<L: OrderList, M: Measure>(list: &L, index: usize, sheet: &Sheet, measu
     ensures bound { unsigned_abs result ≤ M.Measure.rate measure.now * most_kwh }
 {
     let mut total: i64 = 0;
+    // A loop: a closure over a measure would need clauses of its own.
     for number in 0..list.count() {
         total += measure.of(list, number, sheet.quantity(index, number));
     }

@@ -33,7 +33,7 @@ impl Sheet {
         if kwh > MOST_KWH {
             return Err(Fault::OutOfRange);
         }
-        // By index: through `get_mut` it is not found that the widths stay.
+        // By index: through `get_mut` the check does not find that the rows stay as long.
         self.quantities[list][number] = kwh;
         Ok(())
     }

@@ -13,8 +13,8 @@ unfolding net_injection
 loop-zone-preserved g c =
     let small = c.sum_of.ensures.bound in
     let same : to_z w32 (of_z w32 (to_z w64 (of_z w64 c.sum_of.result))) ≡ c.sum_of.result = omega (arith, ints) in
-    let place : c.loop-zone.zone < length c.loop-zone.nets = let full = c.loop-zone.invariant.1 in omega (arith, c.requires) in
+    let place : c.loop-zone.zone < length c.loop-zone.nets = let full = c.loop-zone.invariant.1 in let few = g.met.N.Network.fewzones c.args.network.now in omega arith in
     (nets_next _ _ _ c.loop-zone.zone _ c.loop-zone.invariant.0 place (same ∙ c.sum_of.ensures.value) (rw same small), length-set c.loop-zone.nets c.loop-zone.zone _ ∙ c.loop-zone.invariant.1)
 
 pub returns : goal.returns
-returns g c = nets_all _ _ c.loop-zone.nets c.loop-zone.zone c.args.zones c.loop-zone.invariant.0 (omega arith)
+returns g c = nets_all _ _ c.loop-zone.nets c.loop-zone.zone _ c.loop-zone.invariant.0 (omega arith)
