@@ -1,16 +1,14 @@
 -- One command more, and the end.
-use Rattle.std.proofs.Common.{◌≡◌, ℕ, ◌+◌, ◌<◌, ◌≤◌, List, [], ◌∷◌, ◌++◌, length, take, Some, None, Ok, Err, sym, ap, ◌∙◌, subst, append_assoc, append-nil, arith, length-append}
+use Rattle.std.proofs.Common.{◌≡◌, ℕ, ◌+◌, ◌≤◌, List, [], ◌∷◌, ◌++◌, length, take, Some, None, Ok, Err, sym, ap, ◌∙◌, subst, append_assoc, append-nil, arith, length-append}
 use Rattle.std.proofs.lemmas.List.{length-take-le}
 use Rattle.auction.specs.declared.House.TheVariants.{Zero, One}
 use Rattle.auction.specs.declared.Refusal.TheVariants.{NotNow}
 use Rattle.auction.specs.Grids.{Grid}
-use Rattle.stream.specs.declared.commands.Command.{Command}
 use Rattle.stream.specs.Spelling.{spelled, letter_of}
 use Rattle.reading.specs.declared.Placed.{Placed}
 use Rattle.reading.specs.Next.{Found}
 use Rattle.reading.specs.Dialogues.{Ended}
 use Rattle.history.specs.Events.{Answer}
-use Rattle.history.specs.Words.{account}
 use Rattle.history.specs.Situations.{Situation}
 use Rattle.history.specs.Keeping.{Keeps}
 use Rattle.history.proofs.Promised.{promised}

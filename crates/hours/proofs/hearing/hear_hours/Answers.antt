@@ -1,4 +1,4 @@
-use Rattle.std.proofs.Common.{◌≡◌, ◌++◌, Some, None, Ok, string_bytes, refl, sym, ap, ◌∙◌, subst, rules}
+use Rattle.std.proofs.Common.{◌≡◌, ◌++◌, Some, Ok, string_bytes, refl, sym, ap, ◌∙◌, subst, rules}
 use Rattle.auction.specs.declared.House.TheVariants.{Zero, One}
 use Rattle.stream.specs.Spelling.{letter_of}
 use Rattle.reading.specs.Next.{Found}
