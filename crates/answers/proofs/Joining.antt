@@ -3,7 +3,8 @@ use Rattle.std.proofs.Common.{◌≡◌, ℕ, Bool, true, false, List, MatchBool
 use Rattle.auction.specs.Grids.{Grid}
 use Rattle.ground.specs.declared.Ground.{Ground}
 use Rattle.ground.specs.Grounds.{opened_ground}
-use Rattle.hours.specs.Transcripts.{StreamKinds, Ended, HoursAnswered}
+use Rattle.reading.specs.Dialogues.{Ended}
+use Rattle.hours.specs.Transcripts.{StreamKinds, HoursAnswered}
 use Rattle.answers.specs.Courses.{ground_grid, BlockEnded, BlockAnswered, HoursIfOpened, StreamAnswered}
 
 -- where the box was opened, the hours begin where the block ended; else reading had ended

@@ -9,7 +9,8 @@ use Rattle.ground.specs.declared.Ground.{Ground}
 use Rattle.ground.specs.declared.Ground.TheVariants.{Base, OverTree, OverTable}
 use Rattle.ground.specs.Grounds.{BlockAnswer, Takes, opened_ground, layered_grid, grid_of_tree}
 use Rattle.table.specs.Tables.{table_grid}
-use Rattle.hours.specs.Transcripts.{StreamKinds, Ended, HoursAnswered}
+use Rattle.reading.specs.Dialogues.{Ended}
+use Rattle.hours.specs.Transcripts.{StreamKinds, HoursAnswered}
 
 -- a command of the network block with its place and its answer
 pub record Given : Type 0 where

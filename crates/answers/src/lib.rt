@@ -13,17 +13,12 @@ use hours::hear_hours;
 use kinds::{Bids, Offers, Transfers};
 use listed::Listed;
 use network::Network;
+use reading::Dialogue;
 use std::alloc::{AllocError, Global};
-use stream::Reader;
 
 /// The hours over the network that the block gave, if it opened the box.
-fn hear(
-    heap: Global,
-    lines: &mut String,
-    reader: &mut Reader<'_>,
-    footing: Ground,
-) -> Result<(), AllocError>
-    ensures { OnOk result (HoursIfOpened power_kinds footing reader.old.bytes.now reader.old.at (string_bytes lines.old) (string_bytes lines.new)) }
+fn hear(dialogue: &mut Dialogue<'_>, footing: Ground) -> Result<(), AllocError>
+    ensures { OnOk result (HoursIfOpened power_kinds footing dialogue.old.reader.bytes.now dialogue.old.reader.at (string_bytes dialogue.old.lines) (string_bytes dialogue.new.lines)) }
 {
     if !footing.is_open() {
         return Ok(());
@@ -31,24 +26,12 @@ fn hear(
     let (offers, bids, transfers) = (Offers::new(), Bids::new(), Transfers::new());
     match footing {
         Ground::Base { .. } => Ok(()),
-        Ground::OverTree { layered } => hear_hours(
-            heap,
-            lines,
-            reader,
-            layered.into_network(),
-            offers,
-            bids,
-            transfers,
-        ),
-        Ground::OverTable { layered } => hear_hours(
-            heap,
-            lines,
-            reader,
-            layered.into_network(),
-            offers,
-            bids,
-            transfers,
-        ),
+        Ground::OverTree { layered } => {
+            hear_hours(dialogue, layered.into_network(), offers, bids, transfers)
+        }
+        Ground::OverTable { layered } => {
+            hear_hours(dialogue, layered.into_network(), offers, bids, transfers)
+        }
     }
 }
 
@@ -56,19 +39,17 @@ fn hear(
 pub fn answers(heap: Global, stream: &[u8]) -> Result<String, AllocError>
     ensures { IfOk result (λ text. BlockAnswered (take 65536 stream.now) (string_bytes text)) }
 {
-    let mut lines = String::new(heap);
-    let mut reader = Reader::new(stream);
-    let _ground = read_block(heap, &mut lines, &mut reader)?;
-    Ok(lines)
+    let mut dialogue = Dialogue::new(heap, stream);
+    let _ground = read_block(&mut dialogue)?;
+    Ok(dialogue.lines)
 }
 
 /// A line for each command of the stream: those of the network block, and once it opened the box those of the hours.
 pub fn stream_answers(heap: Global, stream: &[u8]) -> Result<String, AllocError>
     ensures { IfOk result (λ text. StreamAnswered power_kinds (take 65536 stream.now) (string_bytes text)) }
 {
-    let mut lines = String::new(heap);
-    let mut reader = Reader::new(stream);
-    let footing = read_block(heap, &mut lines, &mut reader)?;
-    hear(heap, &mut lines, &mut reader, footing)?;
-    Ok(lines)
+    let mut dialogue = Dialogue::new(heap, stream);
+    let footing = read_block(&mut dialogue)?;
+    hear(&mut dialogue, footing)?;
+    Ok(dialogue.lines)
 }

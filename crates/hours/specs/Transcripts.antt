@@ -1,14 +1,12 @@
 -- What was read of a stream after the box was opened, and what was answered.
-use Rattle.std.specs.Prelude.{◌≡◌, ℕ, ◌+◌, ◌≤◌, ◌⊎◌, List, [], ◌∷◌, ◌++◌, length, take, ℤ, Some, None, Ok, Err, Option}
+use Rattle.std.specs.Prelude.{◌≡◌, ℕ, ◌+◌, ◌≤◌, List, [], ◌∷◌, ◌++◌, length, take, ℤ, Some, None, Ok, Err, Option}
 use Rattle.auction.specs.declared.House.TheVariants.{Zero, One}
 use Rattle.auction.specs.declared.Refusal.TheVariants.{NotNow}
 use Rattle.auction.specs.Grids.{Grid}
 use Rattle.stream.specs.declared.commands.Command.{Command}
 use Rattle.stream.specs.Spelling.{spelled, letter_of}
-use Rattle.stream.specs.declared.reader.ReadFault.{ReadFault}
-use Rattle.stream.specs.Faults.{Faulty}
 use Rattle.report.specs.Lines.{taken_text, accepted_text, refused_text, stream_fault}
-use Rattle.reading.specs.Next.{fault_told}
+use Rattle.reading.specs.Dialogues.{Ended}
 use Rattle.kinds.specs.declared.linear.ZoneWish.{ZoneWish}
 use Rattle.kinds.specs.declared.transfer.kind.TransferWish.{TransferWish}
 use Rattle.history.specs.declared.calls.Reply.TheVariants.{Done, Accepted}
@@ -72,10 +70,6 @@ pub record Sofar (k : StreamKinds) (g : Grid) (bytes : List ℕ) (start : ℕ) (
   pub block_over : BlockOver transcript
   pub keeps : Keeps k g (history_of transcript) held
   pub written : text ≡ before ++ lines_of k g transcript
-
--- Reading ended: at the end of the stream, or at a fault, which is written too.
-abbrev pub Ended : List ℕ → ℕ → List ℕ → List ℕ → Type 0
-Ended bytes at text text' = ((length bytes ≤ at) × (text' ≡ text)) ⊎ ((f : ReadFault) × Faulty bytes at f × (text' ≡ text ++ refused_text (fault_told f)))
 
 -- The hours of a stream, from the place after the command that opened the box: there is a run of calls of a box over this network whose calls are those that the stream spells there, each with the right answer; the lines that were written are those of these answers; reading went on to the end or to a fault; and what both houses rely on holds of the run.
 pub record HoursAnswered (k : StreamKinds) (g : Grid) (bytes : List ℕ) (start : ℕ) (before after : List ℕ) : Type 0 where

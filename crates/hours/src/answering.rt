@@ -1,18 +1,22 @@
 //! One command after the box was opened: the answer, and its line.
 
-ghost use Rattle.std.specs.Prelude.{◌≡◌, IfOk, string_bytes};
+ghost use Rattle.std.specs.Prelude.{◌≡◌, ◌++◌, OnOk, string_bytes};
+ghost use Rattle.auction.specs.declared.House.TheVariants.{Zero, One};
+ghost use Rattle.stream.specs.Spelling.{letter_of};
+ghost use Rattle.clearing.specs.Views.{situation};
 ghost use Rattle.hours.specs.Transcripts.{line_of};
 ghost use Rattle.hours.specs.Answering.{AnswersOne};
 
 use crate::calls::call_of;
-use auction::Refusal;
+use auction::{House, Refusal};
 use clearing::ClearingBox;
 use history::Reply;
 use kinds::{TransferWish, ZoneWish};
 use network::Network;
 use orders::OrderList;
-use report::{accepted_line, refused_at, refused_line, taken_line};
-use std::alloc::{AllocError, Global};
+use reading::{Dialogue, Placed};
+use report::Outcome;
+use std::alloc::AllocError;
 use stream::Command;
 
 /// The box's answer to a command; one of the network block is refused.
@@ -24,28 +28,30 @@ pub(crate) fn answer<
 >(clearing: &mut ClearingBox<N, X, Y, W>, command: &Command) -> Result<Reply, Refusal>
     ensures { AnswersOne N.Network X.OrderList Y.OrderList W.OrderList command.now clearing.old result clearing.new }
 {
-    match call_of(command) {
-        Some(call) => clearing.call(call),
-        None => Err(Refusal::NotNow),
-    }
+    let call = call_of(command).ok_or(Refusal::NotNow)?;
+    clearing.call(call)
 }
 
-/// The line of an answer; the accounts are those after the call.
-pub(crate) fn line(
-    heap: Global,
-    offset: usize,
-    letter: u8,
+/// Adds the line of an answer, with both accounts as the box has them now.
+pub(crate) fn say<N: Network, X: OrderList, Y: OrderList, W: OrderList>(
+    dialogue: &mut Dialogue<'_>,
+    clearing: &ClearingBox<N, X, Y, W>,
+    placed: &Placed,
     answer: Result<Reply, Refusal>,
-    zero: i128,
-    one: i128,
-) -> Result<String, AllocError>
-    ensures { IfOk result (λ s. string_bytes s ≡ line_of offset letter answer zero one) }
+) -> Result<(), AllocError>
+    ensures kept { dialogue.new.reader ≡ dialogue.old.reader }
+    ensures said { OnOk result (string_bytes dialogue.new.lines ≡ string_bytes dialogue.old.lines ++ line_of placed.now.offset (letter_of placed.now.command) answer ((situation X.OrderList Y.OrderList W.OrderList clearing.now).account Zero) ((situation X.OrderList Y.OrderList W.OrderList clearing.now).account One)) }
 {
-    match answer {
-        Ok(Reply::Done) => taken_line(heap, offset, letter),
-        Ok(Reply::Accepted { welfare, rent }) => {
-            accepted_line(heap, offset, letter, welfare, rent, zero, one)
-        }
-        Err(refusal) => refused_line(heap, &refused_at(offset, letter, refusal)),
-    }
+    let zero = clearing.account(House::Zero);
+    let one = clearing.account(House::One);
+    let outcome = answer.map(|reply| match reply {
+        Reply::Done => Outcome::Taken,
+        Reply::Accepted { welfare, rent } => Outcome::Accepted {
+            welfare,
+            rent,
+            zero,
+            one,
+        },
+    });
+    dialogue.say(placed, outcome)
 }

@@ -1,97 +1,122 @@
 //! What the program says of each command: that it was taken, or why and where it was refused.
 #![tactic(auto)]
 
-ghost use Rattle.std.specs.Prelude.{◌≡◌, IfOk, string_bytes};
+ghost use Rattle.std.specs.Prelude.{◌≡◌, Some};
 ghost use Rattle.stream.specs.Faults.{offset_of, shown_letter, refused_as};
-ghost use Rattle.report.specs.Lines.{accepted_text, refused_text, stream_fault, taken_text};
+ghost use Rattle.report.specs.Lines.{mark_text, stream_fault, refused_text, line_text};
 
 use auction::Refusal;
-use std::alloc::{AllocError, Global};
+use std::fmt;
 use stream::{Item, ReadFault};
 
-/// A command that was refused: its letter, and why.
+/// Where a command begins in the stream, and its letter.
 #[derive(Clone, Copy)]
-pub struct CommandFault {
+pub struct Mark {
+    pub offset: usize,
     pub letter: u8,
-    pub refusal: Refusal,
 }
 
-/// A refusal met in the stream: where, which command, and why.
+impl Mark {
+    /// The refusal of the command that has this mark.
+    pub fn refused(self, refusal: Refusal) -> StreamFault
+        ensures { result ≡ stream_fault self.offset self.letter refusal }
+    {
+        StreamFault {
+            mark: self,
+            refusal,
+        }
+    }
+}
+
+impl From<&Item<'_>> for Mark {
+    ghost from_gives = { λ item mark. mark ≡ record { offset = item.now.offset; letter = item.now.letter } };
+
+    fn from(item: &Item<'_>) -> Mark {
+        Mark {
+            offset: item.offset,
+            letter: item.letter,
+        }
+    }
+}
+
+/// The offset and the letter, as a line begins.
+impl fmt::Display for Mark {
+    ghost output = { λ mark. Some (mark_text mark.offset mark.letter) };
+
+    fn fmt<W: fmt::Write>(&self, f: &mut fmt::Formatter<W>) -> fmt::Result {
+        let offset = self.offset;
+        let letter = self.letter as char;
+        write!(f, "{offset} {letter}")
+    }
+}
+
+/// A refusal met in the stream: of which command, and why.
 #[derive(Clone, Copy)]
 pub struct StreamFault {
-    pub offset: usize,
-    pub command: CommandFault,
+    pub mark: Mark,
+    pub refusal: Refusal,
 }
 
 impl From<ReadFault> for StreamFault {
     ghost from_gives = { λ fault r. r ≡ stream_fault (offset_of fault) (shown_letter fault) (refused_as fault) };
 
     fn from(fault: ReadFault) -> StreamFault {
-        let command = CommandFault {
-            letter: fault.letter(),
-            refusal: Refusal::from(fault),
-        };
-        StreamFault {
+        let mark = Mark {
             offset: fault.offset(),
-            command,
-        }
+            letter: fault.letter(),
+        };
+        mark.refused(Refusal::from(fault))
     }
-}
-
-/// The refusal of the command that an item of the stream holds.
-pub fn refused(item: &Item, refusal: Refusal) -> StreamFault
-    ensures { result ≡ stream_fault item.now.offset item.now.letter refusal }
-{
-    StreamFault {
-        offset: item.offset,
-        command: CommandFault {
-            letter: item.letter,
-            refusal,
-        },
-    }
-}
-
-/// The refusal of a command with this place in the stream and this letter.
-pub fn refused_at(offset: usize, letter: u8, refusal: Refusal) -> StreamFault
-    ensures { result ≡ stream_fault offset letter refusal }
-{
-    StreamFault {
-        offset,
-        command: CommandFault { letter, refusal },
-    }
-}
-
-/// The line for a command that was taken.
-pub fn taken_line(heap: Global, offset: usize, letter: u8) -> Result<String, AllocError>
-    ensures { IfOk result (λ s. string_bytes s ≡ taken_text offset letter) }
-{
-    let shown = letter as char;
-    format!(in heap; "{offset} {shown} ok\n")
 }
 
 /// The line for a command that was refused.
-pub fn refused_line(heap: Global, fault: &StreamFault) -> Result<String, AllocError>
-    ensures { IfOk result (λ s. string_bytes s ≡ refused_text fault.now) }
-{
-    let offset = fault.offset;
-    let shown = fault.command.letter as char;
-    let number = fault.command.refusal.number();
-    let (first, second) = fault.command.refusal.place();
-    format!(in heap; "{offset} {shown} refused {number} {first} {second}\n")
+impl fmt::Display for StreamFault {
+    ghost output = { λ fault. Some (refused_text fault) };
+
+    fn fmt<W: fmt::Write>(&self, f: &mut fmt::Formatter<W>) -> fmt::Result {
+        let mark = self.mark;
+        let number = self.refusal.number();
+        let (first, second) = self.refusal.place();
+        writeln!(f, "{mark} refused {number} {first} {second}")
+    }
 }
 
-/// The line for an accepted sheet: its welfare and rent, and both accounts after the call.
-pub fn accepted_line(
-    heap: Global,
-    offset: usize,
-    letter: u8,
-    welfare: i64,
-    rent: i64,
-    zero: i128,
-    one: i128,
-) -> Result<String, AllocError>
-    ensures { IfOk result (λ s. string_bytes s ≡ accepted_text offset letter welfare rent zero one) }
-{
-    let shown = letter as char;
-    format!(in heap; "{offset} {shown} accepted {welfare} {rent} {zero} {one}\n")
+/// What a command that was taken brought about.
+#[derive(Clone, Copy)]
+pub enum Outcome {
+    Taken,
+    /// A sheet was accepted: its welfare and rent, and both accounts after the call.
+    Accepted {
+        welfare: i64,
+        rent: i64,
+        zero: i128,
+        one: i128,
+    },
+}
+
+/// What is said of a command: what it brought about, or why it was refused.
+#[derive(Clone, Copy)]
+pub struct Line {
+    pub mark: Mark,
+    pub answer: Result<Outcome, Refusal>,
+}
+
+impl fmt::Display for Line {
+    ghost output = { λ line. Some (line_text line) };
+
+    fn fmt<W: fmt::Write>(&self, f: &mut fmt::Formatter<W>) -> fmt::Result {
+        let mark = self.mark;
+        match self.answer {
+            Ok(Outcome::Taken) => writeln!(f, "{mark} ok"),
+            Ok(
+                Outcome::Accepted {
+                    welfare,
+                    rent,
+                    zero,
+                    one,
+                },
+            ) => writeln!(f, "{mark} accepted {welfare} {rent} {zero} {one}"),
+            Err(refusal) => mark.refused(refusal).fmt(f),
+        }
+    }
 }

@@ -15,9 +15,9 @@ returns-in-OverTree c =
     let grid : Grid = network_grid grid_of_tree c.into_network.result in
     let same : grid ≡ ground_grid c.args.footing = ap (network_grid grid_of_tree) c.into_network.ensures ∙ sym (ap ground_grid c.in-OverTree.is) in
     IfOk-weaker c.hear_hours.result
-    (λ _. HoursAnswered power_kinds grid c.args.reader.now.bytes.now c.args.reader.now.at (string_bytes c.args.lines.now) (string_bytes c.hear_hours.new.lines))
-    (λ _. HoursIfOpened power_kinds c.args.footing c.args.reader.now.bytes.now c.args.reader.now.at (string_bytes c.args.lines.now) (string_bytes c.hear_hours.new.lines))
-    (λ _ heard. heard_opened power_kinds c.args.footing grid c.args.reader.now.bytes.now c.args.reader.now.at (string_bytes c.args.lines.now) (string_bytes c.hear_hours.new.lines) is-opened same heard)
+    (λ _. HoursAnswered power_kinds grid c.args.dialogue.now.reader.bytes.now c.args.dialogue.now.reader.at (string_bytes c.args.dialogue.now.lines) (string_bytes c.hear_hours.new.dialogue.lines))
+    (λ _. HoursIfOpened power_kinds c.args.footing c.args.dialogue.now.reader.bytes.now c.args.dialogue.now.reader.at (string_bytes c.args.dialogue.now.lines) (string_bytes c.hear_hours.new.dialogue.lines))
+    (λ _ heard. heard_opened power_kinds c.args.footing grid c.args.dialogue.now.reader.bytes.now c.args.dialogue.now.reader.at (string_bytes c.args.dialogue.now.lines) (string_bytes c.hear_hours.new.dialogue.lines) is-opened same heard)
     c.hear_hours.ensures
 
 pub returns-in-OverTable : goal.returns-in-OverTable
@@ -26,7 +26,7 @@ returns-in-OverTable c =
     let grid : Grid = network_grid table_grid c.into_network-in-OverTable.result in
     let same : grid ≡ ground_grid c.args.footing = ap (network_grid table_grid) c.into_network-in-OverTable.ensures ∙ sym (ap ground_grid c.in-OverTable.is) in
     IfOk-weaker c.hear_hours-in-OverTable.result
-    (λ _. HoursAnswered power_kinds grid c.args.reader.now.bytes.now c.args.reader.now.at (string_bytes c.args.lines.now) (string_bytes c.hear_hours-in-OverTable.new.lines))
-    (λ _. HoursIfOpened power_kinds c.args.footing c.args.reader.now.bytes.now c.args.reader.now.at (string_bytes c.args.lines.now) (string_bytes c.hear_hours-in-OverTable.new.lines))
-    (λ _ heard. heard_opened power_kinds c.args.footing grid c.args.reader.now.bytes.now c.args.reader.now.at (string_bytes c.args.lines.now) (string_bytes c.hear_hours-in-OverTable.new.lines) is-opened same heard)
+    (λ _. HoursAnswered power_kinds grid c.args.dialogue.now.reader.bytes.now c.args.dialogue.now.reader.at (string_bytes c.args.dialogue.now.lines) (string_bytes c.hear_hours-in-OverTable.new.dialogue.lines))
+    (λ _. HoursIfOpened power_kinds c.args.footing c.args.dialogue.now.reader.bytes.now c.args.dialogue.now.reader.at (string_bytes c.args.dialogue.now.lines) (string_bytes c.hear_hours-in-OverTable.new.dialogue.lines))
+    (λ _ heard. heard_opened power_kinds c.args.footing grid c.args.dialogue.now.reader.bytes.now c.args.dialogue.now.reader.at (string_bytes c.args.dialogue.now.lines) (string_bytes c.hear_hours-in-OverTable.new.dialogue.lines) is-opened same heard)
     c.hear_hours-in-OverTable.ensures

@@ -4,4 +4,4 @@ use Rattle.answers.proofs.Joining.{joined}
 use Rattle.answers.proofs.stream_answers.Goals as goal
 
 pub returns : goal.returns
-returns c = joined power_kinds c.new-reader.result.bytes.now (take 65536 c.args.stream.now) c.new-reader.ensures.0 c.in_ok-footing.footing c.read_block.new.reader.bytes.now c.read_block.new.reader.at (string_bytes c.read_block.new.lines) (string_bytes c.hear.new.lines) c.in_ok-footing.ensures c.in_ok-hear.ensures
+returns c = joined power_kinds c.new-dialogue.result.reader.bytes.now (take 65536 c.args.stream.now) c.new-dialogue.ensures.0 c.in_ok-footing.footing c.read_block.new.dialogue.reader.bytes.now c.read_block.new.dialogue.reader.at (string_bytes c.read_block.new.dialogue.lines) (string_bytes c.hear.new.dialogue.lines) c.in_ok-footing.ensures c.in_ok-hear.ensures
