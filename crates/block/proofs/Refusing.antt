@@ -2,13 +2,14 @@
 use Rattle.std.proofs.Common.{◌≡◌, ℕ, ◌≤◌, ap, ◌∙◌, subst}
 use Rattle.std.proofs.Math.Bridge.{le_prop}
 use Rattle.auction.specs.Bounds.{most_zones, most_lines}
-use Rattle.network.specs.declared.list.RowList.{RowList}
+use Rattle.filled.specs.declared.list.Filled.{Filled}
+use Rattle.network.specs.declared.row.Row.{Row}
 use Rattle.table.specs.declared.sheet.Table.{Table}
 
-table_with : (zones : ℕ) → RowList most_lines → 1 ≤ zones → zones ≤ most_zones → Table
+table_with : (zones : ℕ) → Filled Row most_lines → 1 ≤ zones → zones ≤ most_zones → Table
 table_with zones rows zoned few = record { zones = zones; rows = rows; zoned = zoned; few = few }
 
-same_zones : (zones : ℕ) (rows : RowList most_lines) (zoned zoned' : 1 ≤ zones) (few few' : zones ≤ most_zones) → table_with zones rows zoned few ≡ table_with zones rows zoned' few'
+same_zones : (zones : ℕ) (rows : Filled Row most_lines) (zoned zoned' : 1 ≤ zones) (few few' : zones ≤ most_zones) → table_with zones rows zoned few ≡ table_with zones rows zoned' few'
 same_zones zones rows zoned zoned' few few' = ap (λ p. table_with zones rows p few) (le_prop zoned zoned') ∙ ap (table_with zones rows zoned') (le_prop few few')
 
 -- a table is its zones and its rows
