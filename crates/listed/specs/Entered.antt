@@ -1,5 +1,5 @@
 -- The entries that rows mean, read and changed as the rows are.
-use Rattle.std.specs.Prelude.{◌≡◌, ℕ, zero, suc, ◌+◌, ◌<◌, ◌≤◌, true, cond, List, [], ◌∷◌, ◌++◌, map, length, Some, None, Ok, Err, Option, Result, MatchOption, refl}
+use Rattle.std.specs.Prelude.{◌≡◌, ℕ, zero, suc, ◌+◌, ◌<◌, ◌≤◌, true, cond, List, [], ◌∷◌, ◌++◌, map, length, Some, None, Ok, Err, Option, Result, MatchOption, slice_index_or, refl}
 use Rattle.std.proofs.Common.{sym, ap, subst, ◌∙◌, arith}
 use Rattle.std.specs.List.{All}
 use Rattle.std.proofs.lemmas.List.Elements.{All-head, All-tail}
@@ -18,7 +18,7 @@ use Rattle.orders.specs.Reads.{entry, standing_largest, standing_kwh, without, P
 use Rattle.rows.specs.declared.row.Row.{Row}
 use Rattle.rows.specs.declared.table.Rows.{Rows}
 use Rattle.rows.specs.Bounds.{InRange}
-use Rattle.rows.specs.Kwh.{row_kwh, rows_kwh}
+use Rattle.rows.specs.Kwh.{no_row, row_kwh, rows_kwh}
 use Rattle.rows.specs.Rows.{Ranged, used, row_at, rows_without, entered, Room}
 use Rattle.rows.proofs.Held.{row_ranged}
 use Rattle.listed.specs.Entries.{ByNumbers, order_by, entry_by, NoneEntered, RowEntered}
@@ -47,6 +47,12 @@ entry_past es n h = get_or_past es n no_entry h
 
 pub entry_none : (m : ByNumbers) (rs : List Row) (n : ℕ) → None ≡ row_at rs n → entry (map (entry_by m) rs) n ≡ no_entry
 entry_none m rs n h = entry_past (map (entry_by m) rs) n (outside m rs n h)
+
+-- a row that is there is in range
+pub in_range_there : (rs : List Row) → ((k : ℕ) → k < length rs → Ranged (slice_index_or rs k no_row)) → (n : ℕ) (r : Row) → Some r ≡ row_at rs n → Ranged r
+in_range_there [] ranged n r h = absurd (let z : ◌≡◌ {A = ℕ} 0 1 = cc in omega arith)
+in_range_there (x ∷ rs) ranged zero r h = let e : x ≡ r = cc in subst Ranged e (ranged 0 (omega arith))
+in_range_there (x ∷ rs) ranged (suc n) r h = in_range_there rs (λ k l. ranged (suc k) (omega arith)) n r h
 
 -- a sum begins with its first term
 Σℕ_first : (n : ℕ) (f : ℕ → ℕ) → Σℕ (suc n) f ≡ f 0 + Σℕ n (λ i. f (suc i))
@@ -121,3 +127,10 @@ module _ (m : ByNumbers) (sized : Sized m) (before after : List Row) (house : Ho
 pub row_entered : (m : ByNumbers) (rs : List Row) → All Ranged rs → (n : ℕ) (r : Option Row) → r ≡ row_at rs n → MatchOption r (NoneEntered (map (entry_by m) rs) n) (RowEntered m (map (entry_by m) rs) n)
 row_entered m rs ranged n (Some r) h = record { there = inside m rs n r h; ranged = row_ranged rs ranged n r h; means = entry_some m rs n r h }
 row_entered m rs ranged n None h = record { past = outside m rs n h; nothing = entry_none m rs n h }
+
+-- a row in range makes an order
+pub order_read : {K : Type 0} (meaning : K → Order) (m : ByNumbers) (es : List Entry) (n : ℕ) (r : Row) → RowEntered m es n r → (o : Option K)
+    → MatchOption o (Ranged r → ⊥) (λ k. Ranged r × (meaning k ≡ order_by m r))
+    → MatchOption o (NoneEntered es n) (λ k. (n < length es) × (meaning k ≡ (entry es n).order))
+order_read meaning m es n r read (Some k) made = (read.there, made.1 ∙ sym (ap (λ (e : Entry). e.order) read.means))
+order_read meaning m es n r read None never = absurd (never read.ranged)

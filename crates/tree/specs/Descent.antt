@@ -1,7 +1,8 @@
 -- The climb to zone 0 finds what the relation says.
-use Rattle.std.specs.Prelude.{◌≡◌, ℕ, zero, suc, ◌-◌, ◌≤◌, Bool, true, false, cond, ◌⊎◌, List, pos, ◌==◌, ◌≢◌, slice_index_or, unsigned_abs, refl}
+use Rattle.std.specs.Prelude.{◌≡◌, ℕ, zero, suc, ◌-◌, ◌≤◌, Bool, true, false, cond, ◌⊎◌, List, take, pos, ◌==◌, ◌≢◌, slice_index_or, unsigned_abs, refl}
 use Rattle.std.proofs.Common.{sym, subst, inl, inr, ⊎_elim, arith, eq-eqb}
-use Rattle.std.proofs.lemmas.Bool.{cases_Bool}
+use Rattle.std.proofs.lemmas.List.{get_or-take, get_or_past, length-take}
+use Rattle.std.proofs.lemmas.Bool.{cases_lt, cases_Bool}
 use Rattle.std.proofs.lemmas.Bool.Decides.{nat_tests, Decides-eqb}
 use Rattle.tree.specs.declared.grown.Link.{Link}
 use Rattle.tree.specs.Links.{link_of, no_link, Descends, here, from}
@@ -10,6 +11,13 @@ use Rattle.tree.specs.Trees.{passes, share}
 -- each parent has a smaller number than its child
 abbrev pub Rooted : List Link → Type 0
 Rooted links = (i : ℕ) → (slice_index_or links i no_link).parent ≤ i
+
+pub rooted_take : (n : ℕ) (links : List Link) → Rooted links → Rooted (take n links)
+rooted_take n links rooted i =
+    ⊎_elim
+    (λ below. rw (get_or-take n links i no_link below) (rooted i))
+    (λ past. rw (get_or_past (take n links) i no_link (omega (arith, length-take n links))) (omega arith))
+    (cases_lt i n)
 
 -- a zone descends from no larger one
 pub descends_le : (links : List Link) → Rooted links → (c z : ℕ) → Descends links c z → c ≤ z

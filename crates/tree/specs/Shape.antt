@@ -1,8 +1,8 @@
 -- The grid of a tree is the network that the tree means.
-use Rattle.std.specs.Prelude.{◌≡◌, ℕ, ◌+◌, ◌-◌, ◌*◌, ◌/◌, ◌%◌, ◌<◌, ◌≤◌, true, false, List, length, get_or, pos, neg_ℤ, ◌≢◌, nat_eq, nat_lt, slice_index_or, unsigned_abs, refl}
-use Rattle.std.proofs.Common.{ap, ◌∙◌, ⊎_elim, arith, eq-eqb}
+use Rattle.std.specs.Prelude.{◌≡◌, ℕ, ◌+◌, ◌-◌, ◌*◌, ◌/◌, ◌%◌, ◌<◌, ◌≤◌, true, false, List, [], ◌∷◌, ◌++◌, length, get_or, take, set, pos, neg_ℤ, ◌≢◌, nat_eq, nat_lt, slice_index_or, slice_set, unsigned_abs, refl}
+use Rattle.std.proofs.Common.{sym, ap, subst, ◌∙◌, ⊎_elim, arith, eq-eqb}
 use Rattle.std.proofs.lemmas.List.FromFn.{length-map-range_with_len, get_or-map-range_with_len}
-use Rattle.std.proofs.lemmas.List.{get_or_past, length-take-le}
+use Rattle.std.proofs.lemmas.List.{get_or_past, get_or-take, get_or-set_same, get_or-set_other, length-take, length-take-le}
 use Rattle.std.proofs.lemmas.Bool.{cases_lt, cases_eq}
 use Rattle.std.proofs.lemmas.Bool.Decides.{nat_tests}
 use Rattle.std.proofs.lemmas.Int.{ints}
@@ -10,9 +10,9 @@ use Rattle.auction.specs.Bounds.{most_zones, most_lines, most_kwh}
 use Rattle.auction.specs.Grids.{Line, no_line, line_count, limit_at, sensitivity_at}
 use Rattle.tree.specs.declared.grown.Link.{Link}
 use Rattle.tree.specs.declared.grown.Tree.{Tree}
-use Rattle.tree.specs.Links.{no_link, zone_count, Descends}
+use Rattle.tree.specs.Links.{most_links, no_link, zone_count, Descends}
 use Rattle.tree.specs.Trees.{links_of, share, line_to_parent, line_to_child, tree_line, tree_lines, tree_grid, TreeShaped, Shaped}
-use Rattle.tree.specs.Descent.{Rooted, share_below, share_elsewhere, share_in_range}
+use Rattle.tree.specs.Descent.{Rooted, rooted_take, share_below, share_elsewhere, share_in_range}
 
 pub lines_is : (links : List Link) → line_count (tree_grid links) ≡ 2 * length links
 unfolding tree_lines
@@ -135,3 +135,32 @@ limit_in_range t l =
     (cases_eq (l % 2) 0))
     (λ past. omega (arith, ap (λ (line : Line). line.limit) (line_past (links_of t) l past)))
     (cases_lt l (2 * length (links_of t)))
+
+-- the link that is read in the array is that of the tree
+pub link_read : (t : Tree) (i : ℕ) → i < t.links.count → slice_index_or (links_of t) i no_link ≡ slice_index_or t.links.rows i no_link
+link_read t i within = get_or-take t.links.count t.links.rows i no_link within
+
+-- what holds of each link still does when one is written for which it holds
+pub each_written : (P : ℕ → Link → Type 0) (links : List Link) (i : ℕ) (new : Link) → ((k : ℕ) → P k (slice_index_or links k no_link)) → P i new → i < length links → (k : ℕ) → P k (slice_index_or (slice_set links i new) k no_link)
+each_written P links i new each here within k =
+    ⊎_elim
+    (λ e. let at : P i (slice_index_or (slice_set links i new) i no_link) = rw (get_or-set_same links i new no_link within) here in subst (λ (j : ℕ). P j (slice_index_or (slice_set links i new) j no_link)) (sym e) at)
+    (λ other. rw (get_or-set_other links i k new no_link other) (each k))
+    (cases_eq k i)
+
+-- the tree with one more link
+pub rooted_written : (t : Tree) (new : Link) → new.parent ≤ t.links.count → t.links.count < most_links → Rooted (take (t.links.count + 1) (slice_set t.links.rows t.links.count new))
+rooted_written t new smaller place i =
+    let written = set t.links.rows t.links.count new in
+    ⊎_elim
+    (λ within.
+    rw (get_or-take (t.links.count + 1) written i no_link within) (
+      ⊎_elim
+      (λ e. rw (e, get_or-set_same t.links.rows t.links.count new no_link (omega arith)) smaller)
+      (λ other. rw (get_or-set_other t.links.rows t.links.count i new no_link other) (rw (← link_read t i (omega arith)) (rooted t i)))
+      (cases_eq i t.links.count)))
+    (λ past. rw (get_or_past (take (t.links.count + 1) written) i no_link (omega (arith, length-take (t.links.count + 1) written))) (omega arith))
+    (cases_lt i (t.links.count + 1))
+
+pub shaped_written : (t : Tree) (new : Link) → new.parent ≤ t.links.count → t.links.count < most_links → TreeShaped (take (t.links.count + 1) (slice_set t.links.rows t.links.count new)) (tree_grid (take (t.links.count + 1) (slice_set t.links.rows t.links.count new)))
+shaped_written t new smaller place = tree_shaped (take (t.links.count + 1) (set t.links.rows t.links.count new)) (rooted_written t new smaller place)
