@@ -4,12 +4,12 @@
 pub mod bounds;
 mod houses;
 
-pub use houses::PerHouse;
-
 ghost use Rattle.std.specs.Prelude.{◌≡◌, ◌≤◌, MatchResult};
 ghost use Rattle.auction.specs.Refusals.{broken_number, broken_place, refusal_number, refusal_place, refusal_of};
 ghost use Rattle.auction.specs.Houses.{HouseNumbered, house_number};
 ghost use Rattle.auction.specs.declared.Refusal.TheVariants.{Sheet, Stranger};
+
+pub use houses::PerHouse;
 
 /// The rule of the sheet that is broken first, and where.
 #[derive(Clone, Copy, PartialEq, Eq, Debug)]

@@ -23,6 +23,7 @@ impl<N: Network, X: OrderList, Y: OrderList, W: OrderList> ClearingBox<N, X, Y, 
     fn count(&self, list: u8) -> usize
         ensures { result ≡ length (list_at (booked X.OrderList Y.OrderList W.OrderList self.now.book) list) }
     {
+        // The lists are of three types, so none is handed out by its number.
         match list {
             0 => self.book.first.count(),
             1 => self.book.second.count(),

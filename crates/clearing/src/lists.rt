@@ -24,10 +24,11 @@ pub(crate) fn enter_into<L: OrderList>(
 pub(crate) fn withdraw_from<L: OrderList>(
     list: &mut L,
     house: House,
-    number: usize,
+    number: u16,
 ) -> Result<Reply, Refusal>
     ensures { ListWithdrawn house number (L.OrderList.entries list.old) result (L.OrderList.entries list.new) }
 {
+    let number = usize::from(number);
     if number >= list.count() {
         return Err(Refusal::Missing);
     }

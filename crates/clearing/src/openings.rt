@@ -22,31 +22,14 @@ impl<N: Network, X: OrderList, Y: OrderList, W: OrderList> ClearingBox<N, X, Y, 
         ensures { Handles N.Network X.OrderList Y.OrderList W.OrderList house (Calls.Enter (house_number house) wish) self.old result self.new }
     {
         let zones = self.network.zones();
-        let first = self.book.first.standing_kwh();
-        let second = self.book.second.standing_kwh();
-        let third = self.book.third.standing_kwh();
+        let book = &mut self.book;
+        let first = book.first.standing_kwh();
+        let second = book.second.standing_kwh();
+        let third = book.third.standing_kwh();
         match wish {
-            Wish::First(wish) => enter_into(
-                &mut self.book.first,
-                house,
-                wish,
-                zones,
-                second + third,
-            ),
-            Wish::Second(wish) => enter_into(
-                &mut self.book.second,
-                house,
-                wish,
-                zones,
-                first + third,
-            ),
-            Wish::Third(wish) => enter_into(
-                &mut self.book.third,
-                house,
-                wish,
-                zones,
-                first + second,
-            ),
+            Wish::First(wish) => enter_into(&mut book.first, house, wish, zones, second + third),
+            Wish::Second(wish) => enter_into(&mut book.second, house, wish, zones, first + third),
+            Wish::Third(wish) => enter_into(&mut book.third, house, wish, zones, first + second),
         }
     }
 
@@ -54,10 +37,11 @@ impl<N: Network, X: OrderList, Y: OrderList, W: OrderList> ClearingBox<N, X, Y, 
     pub(crate) fn withdraw(&mut self, house: House, list: u8, number: u16) -> Result<Reply, Refusal>
         ensures { Handles N.Network X.OrderList Y.OrderList W.OrderList house (Calls.Withdraw (house_number house) list number) self.old result self.new }
     {
+        // The lists are of three types, so none is handed out by its number, to a closure either.
         match list {
-            0 => withdraw_from(&mut self.book.first, house, number as usize),
-            1 => withdraw_from(&mut self.book.second, house, number as usize),
-            2 => withdraw_from(&mut self.book.third, house, number as usize),
+            0 => withdraw_from(&mut self.book.first, house, number),
+            1 => withdraw_from(&mut self.book.second, house, number),
+            2 => withdraw_from(&mut self.book.third, house, number),
             _ => Err(Refusal::Missing),
         }
     }

@@ -19,7 +19,7 @@ use Rattle.history.specs.Handling.{ListEntered, ListWithdrawn, Handled}
 
 -- the same situation with other orders
 abbrev pub with_book : Situation → Book → Situation
-with_book s b = record { closed = s.closed; book = b; dispatch = s.dispatch; prices = s.prices; tries = s.tries; settled_hours = s.settled_hours; account = s.account; rent_account = s.rent_account }
+with_book s b = record s { book = b }
 
 abbrev pub three : List Entry → List Entry → List Entry → Book
 three x y z = x ∷ y ∷ z ∷ []
