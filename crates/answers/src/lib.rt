@@ -24,6 +24,7 @@ fn hear(dialogue: &mut Dialogue<'_>, footing: Ground) -> Result<(), AllocError>
         return Ok(());
     }
     let (offers, bids, transfers) = (Offers::new(), Bids::new(), Transfers::new());
+    // One call, at each type of network.
     match footing {
         Ground::Base { .. } => Ok(()),
         Ground::OverTree { layered } => {

@@ -60,3 +60,22 @@ impl<'a> Dialogue<'a> {
         write!(self.lines, "{line}")
     }
 }
+
+#[cfg(test)]
+mod tests {
+    use super::{Dialogue, Outcome};
+    use std::test::Fail;
+
+    // A tree of two zones is begun, and the third byte names no command.
+    #[test]
+    fn a_command_and_a_fault(rt: HostRuntime) -> Result<(), Fail> {
+        let mut dialogue = Dialogue::new(rt.alloc(), &[90, 2, 7]);
+        let Some(placed) = dialogue.next()? else {
+            return Err(Fail::new("no command was read"));
+        };
+        dialogue.say(&placed, Ok(Outcome::Taken))?;
+        assert!(rt; dialogue.next()?.is_none());
+        assert_eq!(rt; dialogue.lines.as_str(), "0 Z ok\n2 ? refused 1 0 0\n");
+        Ok(())
+    }
+}
