@@ -8,7 +8,7 @@ ghost use Rattle.hours.specs.Transcripts.{line_of};
 ghost use Rattle.hours.specs.Answering.{AnswersOne};
 
 use crate::calls::call_of;
-use auction::{House, Refusal};
+use auction::{House, PerHouse, Refusal};
 use clearing::ClearingBox;
 use history::Reply;
 use kinds::{TransferWish, ZoneWish};
@@ -44,13 +44,13 @@ pub(crate) fn say<N: Network, X: OrderList, Y: OrderList, W: OrderList>(
 {
     let zero = clearing.account(House::Zero);
     let one = clearing.account(House::One);
+    let accounts = PerHouse { zero, one };
     let outcome = answer.map(|reply| match reply {
         Reply::Done => Outcome::Taken,
         Reply::Accepted { welfare, rent } => Outcome::Accepted {
             welfare,
             rent,
-            zero,
-            one,
+            accounts,
         },
     });
     dialogue.say(placed, outcome)

@@ -33,7 +33,7 @@ accepted_text offset letter welfare rent zero one = mark_text offset letter ++ (
 -- the line of an answer: taken, accepted, or refused
 abbrev pub answer_text : Mark → Result Outcome Refusal → List ℕ
 answer_text mark (Ok Taken) = taken_text mark.offset mark.letter
-answer_text mark (Ok (Accepted welfare rent zero one)) = accepted_text mark.offset mark.letter welfare rent zero one
+answer_text mark (Ok (Accepted welfare rent accounts)) = accepted_text mark.offset mark.letter welfare rent accounts.zero accounts.one
 answer_text mark (Err refusal) = refused_text (stream_fault mark.offset mark.letter refusal)
 
 abbrev pub line_text : Line → List ℕ

@@ -5,7 +5,7 @@ ghost use Rattle.std.specs.Prelude.{◌≡◌, Some};
 ghost use Rattle.stream.specs.Faults.{offset_of, shown_letter, refused_as};
 ghost use Rattle.report.specs.Lines.{mark_text, stream_fault, refused_text, line_text};
 
-use auction::Refusal;
+use auction::{PerHouse, Refusal};
 use std::fmt;
 use stream::{Item, ReadFault};
 
@@ -89,8 +89,7 @@ pub enum Outcome {
     Accepted {
         welfare: i64,
         rent: i64,
-        zero: i128,
-        one: i128,
+        accounts: PerHouse<i128>,
     },
 }
 
@@ -112,10 +111,12 @@ impl fmt::Display for Line {
                 Outcome::Accepted {
                     welfare,
                     rent,
-                    zero,
-                    one,
+                    accounts,
                 },
-            ) => writeln!(f, "{mark} accepted {welfare} {rent} {zero} {one}"),
+            ) => {
+                let PerHouse { zero, one } = accounts;
+                writeln!(f, "{mark} accepted {welfare} {rent} {zero} {one}")
+            }
             Err(refusal) => mark.refused(refusal).fmt(f),
         }
     }
