@@ -34,6 +34,7 @@ impl Operands<'_> {
 
     /// The next number of two bytes.
     // `two` and `four` stay apart: no trait of std joins the number types' `from_le_bytes`, and one of `num_traits` would be a crate for two lines.
+    #[tactic(auto, unfolding(stream::specs::Spelling::le16), using(std::proofs::lemmas::Nat::le_bytes_2))]
     pub(crate) fn two(&mut self) -> Option<u16>
         ensures { MatchOption result (length self.old.rest.now < 2) (λ number. Taken 2 (le16 number) self.old.rest.now self.new.rest.now) }
     {
@@ -42,6 +43,7 @@ impl Operands<'_> {
     }
 
     /// The next number of four bytes.
+    #[tactic(auto, unfolding(stream::specs::Spelling::le32), using(std::proofs::lemmas::Nat::le_bytes_4))]
     pub(crate) fn four(&mut self) -> Option<u32>
         ensures { MatchOption result (length self.old.rest.now < 4) (λ number. Taken 4 (le32 number) self.old.rest.now self.new.rest.now) }
     {
