@@ -1,19 +1,20 @@
 //! The commands of an hour's orders and of its course.
 
-ghost use Rattle.std.specs.Prelude.{◌≡◌, ◌∷◌, length, Some, MatchOption, ◌≢◌};
+ghost use Rattle.decoding.specs.Groups.{Reads};
 ghost use Rattle.stream.specs.Reading.{hour_length};
-ghost use Rattle.stream.specs.Spelling.{spelled};
 
 use crate::operands::Operands;
-use stream::Command;
+use stream::{Command, Item};
 
 /// A command of an hour's orders or of its course.
-pub(crate) fn hour_command(letter: u8, operands: &[u8]) -> Option<Command>
-    ensures { MatchOption result (hour_length letter ≢ Some (length operands.now)) (λ command. spelled command ≡ letter ∷ operands.now) }
+pub(crate) fn hour_command(item: &Item<'_>) -> Option<Command>
+    ensures { Reads (hour_length item.now.letter) item.now.letter item.now.operands.now result }
 {
-    let mut operands = Operands { rest: operands };
+    let mut operands = Operands {
+        rest: item.operands,
+    };
     let house = operands.byte()?;
-    let command = match letter {
+    let command = match item.letter {
         b'O' => Command::Offer {
             house,
             zone: operands.byte()?,

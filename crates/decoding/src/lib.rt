@@ -19,10 +19,9 @@ use stream::{Command, Item};
 pub fn decode(item: &Item<'_>) -> Option<Command>
     ensures { MatchOption result (Whole item.now.letter item.now.operands.now → ⊥) (λ command. spelled command ≡ item.now.letter ∷ item.now.operands.now) }
 {
-    let letter = item.letter;
-    let operands = item.operands;
+    // Not one reader with parsing's: there the count is asked before the widths, and a fault says which.
     // Not `or_else`: what a closure gave is not seen in the proof, and a group reads no more than a byte of another's.
-    network_command(letter, operands)
-        .or(hour_command(letter, operands))
-        .or(sheet_command(letter, operands))
+    network_command(item)
+        .or(hour_command(item))
+        .or(sheet_command(item))
 }

@@ -1,18 +1,19 @@
 //! The commands of the network block.
 
-ghost use Rattle.std.specs.Prelude.{◌≡◌, ◌∷◌, length, Some, MatchOption, ◌≢◌};
+ghost use Rattle.decoding.specs.Groups.{Reads};
 ghost use Rattle.stream.specs.Reading.{network_length};
-ghost use Rattle.stream.specs.Spelling.{spelled};
 
 use crate::operands::Operands;
-use stream::Command;
+use stream::{Command, Item};
 
 /// A command of the network block.
-pub(crate) fn network_command(letter: u8, operands: &[u8]) -> Option<Command>
-    ensures { MatchOption result (network_length letter ≢ Some (length operands.now)) (λ command. spelled command ≡ letter ∷ operands.now) }
+pub(crate) fn network_command(item: &Item<'_>) -> Option<Command>
+    ensures { Reads (network_length item.now.letter) item.now.letter item.now.operands.now result }
 {
-    let mut operands = Operands { rest: operands };
-    let command = match letter {
+    let mut operands = Operands {
+        rest: item.operands,
+    };
+    let command = match item.letter {
         b'Z' => Command::Tree {
             zones: operands.byte()?,
         },

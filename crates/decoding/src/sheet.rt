@@ -1,18 +1,19 @@
 //! The commands of a sheet.
 
-ghost use Rattle.std.specs.Prelude.{◌≡◌, ◌∷◌, length, Some, MatchOption, ◌≢◌};
+ghost use Rattle.decoding.specs.Groups.{Reads};
 ghost use Rattle.stream.specs.Reading.{sheet_length};
-ghost use Rattle.stream.specs.Spelling.{spelled};
 
 use crate::operands::Operands;
-use stream::Command;
+use stream::{Command, Item};
 
 /// A command of a sheet.
-pub(crate) fn sheet_command(letter: u8, operands: &[u8]) -> Option<Command>
-    ensures { MatchOption result (sheet_length letter ≢ Some (length operands.now)) (λ command. spelled command ≡ letter ∷ operands.now) }
+pub(crate) fn sheet_command(item: &Item<'_>) -> Option<Command>
+    ensures { Reads (sheet_length item.now.letter) item.now.letter item.now.operands.now result }
 {
-    let mut operands = Operands { rest: operands };
-    let command = match letter {
+    let mut operands = Operands {
+        rest: item.operands,
+    };
+    let command = match item.letter {
         b'A' => Command::Quantity {
             house: operands.byte()?,
             list: operands.byte()?,

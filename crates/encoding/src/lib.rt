@@ -2,14 +2,16 @@
 #![tactic(auto)]
 
 ghost use Rattle.std.specs.Prelude.{◌≡◌, ◌++◌, IfOk, OnOk};
-ghost use Rattle.stream.specs.Spelling.{le16, le32, sensitivities, spelled};
+ghost use Rattle.encoding.specs.Groups.{Writes};
+ghost use Rattle.stream.specs.Reading.{network_length, hour_length, sheet_length};
+ghost use Rattle.stream.specs.Spelling.{le16, le32, sensitivities, letter_of, operands_of, spelled};
 
 use auction::bounds::MOST_ZONES;
 use std::alloc::{AllocError, Global};
 use stream::Command;
 
 /// Writes a number's two bytes.
-// `two` and `four` stay apart: no trait of std joins the number types' `to_le_bytes`.
+// `two` and `four` stay apart: no trait of std joins the number types' `to_le_bytes`, and one of `num_traits` would be a crate for two lines.
 #[tactic(auto, unfolding(stream::specs::Spelling::le16))]
 fn two(bytes: &mut Vec<u8>, number: u16) -> Result<(), AllocError>
     ensures { OnOk result (bytes.new.items ≡ bytes.old.items ++ le16 number) }
@@ -36,27 +38,29 @@ fn limit_and_row(bytes: &mut Vec<u8>, limit: u32, row: &[i16; MOST_ZONES]) -> Re
     Ok(())
 }
 
-/// The bytes that spell a command.
-pub fn encode(heap: Global, command: &Command) -> Result<Vec<u8>, AllocError>
-    ensures { IfOk result (λ v. v.items ≡ spelled command.now) }
+/// Writes an order's house and zones, and then its price and its quantity.
+fn order(bytes: &mut Vec<u8>, places: &[u8], price: u32, quantity: u32) -> Result<(), AllocError>
+    ensures { OnOk result (bytes.new.items ≡ bytes.old.items ++ (places.now ++ (le32 price ++ le32 quantity))) }
 {
-    let mut bytes = Vec::from_slice(heap, &[command.letter()])?;
+    bytes.extend_from_slice(places)?;
+    four(bytes, price)?;
+    four(bytes, quantity)
+}
+
+/// Writes the operands of a command of the network block; nothing of another.
+fn network_operands(bytes: &mut Vec<u8>, command: &Command) -> Result<(), AllocError>
+    ensures { OnOk result (Writes (network_length (letter_of command.now)) (operands_of command.now) bytes.old.items bytes.new.items) }
+{
     match *command {
-        Command::Open => {}
-        Command::Tree { zones: byte }
-        | Command::Table { zones: byte }
-        | Command::Close { house: byte }
-        | Command::Try { house: byte }
-        | Command::Settle { house: byte }
-        | Command::Void { house: byte } => bytes.push(byte)?,
+        Command::Tree { zones } | Command::Table { zones } => bytes.push(zones)?,
         Command::Link {
             parent,
             to_parent,
             to_child,
         } => {
             bytes.push(parent)?;
-            four(&mut bytes, to_parent)?;
-            four(&mut bytes, to_child)?;
+            four(bytes, to_parent)?;
+            four(bytes, to_child)?;
         }
         Command::Row {
             limit,
@@ -65,11 +69,21 @@ pub fn encode(heap: Global, command: &Command) -> Result<Vec<u8>, AllocError>
         | Command::Monitor {
             limit,
             sensitivities,
-        } => limit_and_row(&mut bytes, limit, &sensitivities)?,
+        } => limit_and_row(bytes, limit, &sensitivities)?,
         Command::HoldBack { line, kwh } => {
             bytes.push(line)?;
-            four(&mut bytes, kwh)?;
+            four(bytes, kwh)?;
         }
+        _ => {}
+    }
+    Ok(())
+}
+
+/// Writes the operands of a command of an hour's orders or of its course; nothing of another.
+fn hour_operands(bytes: &mut Vec<u8>, command: &Command) -> Result<(), AllocError>
+    ensures { OnOk result (Writes (hour_length (letter_of command.now)) (operands_of command.now) bytes.old.items bytes.new.items) }
+{
+    match *command {
         Command::Offer {
             house,
             zone,
@@ -81,30 +95,36 @@ pub fn encode(heap: Global, command: &Command) -> Result<Vec<u8>, AllocError>
             zone,
             price,
             quantity,
-        } => {
-            bytes.extend_from_slice(&[house, zone])?;
-            four(&mut bytes, price)?;
-            four(&mut bytes, quantity)?;
-        }
+        } => order(bytes, &[house, zone], price, quantity)?,
         Command::Transfer {
             house,
             first,
             second,
             price,
             quantity,
-        } => {
-            bytes.extend_from_slice(&[house, first, second])?;
-            four(&mut bytes, price)?;
-            four(&mut bytes, quantity)?;
-        }
+        } => order(bytes, &[house, first, second], price, quantity)?,
         Command::Withdraw {
             house,
             list,
             number,
         } => {
             bytes.extend_from_slice(&[house, list])?;
-            two(&mut bytes, number)?;
+            two(bytes, number)?;
         }
+        Command::Close { house }
+        | Command::Try { house }
+        | Command::Settle { house }
+        | Command::Void { house } => bytes.push(house)?,
+        _ => {}
+    }
+    Ok(())
+}
+
+/// Writes the operands of a command of a sheet; nothing of another.
+fn sheet_operands(bytes: &mut Vec<u8>, command: &Command) -> Result<(), AllocError>
+    ensures { OnOk result (Writes (sheet_length (letter_of command.now)) (operands_of command.now) bytes.old.items bytes.new.items) }
+{
+    match *command {
         Command::Quantity {
             house,
             list,
@@ -112,17 +132,29 @@ pub fn encode(heap: Global, command: &Command) -> Result<Vec<u8>, AllocError>
             quantity,
         } => {
             bytes.extend_from_slice(&[house, list])?;
-            two(&mut bytes, number)?;
-            four(&mut bytes, quantity)?;
+            two(bytes, number)?;
+            four(bytes, quantity)?;
         }
         Command::Lambda { house, lambda } => {
             bytes.push(house)?;
-            four(&mut bytes, lambda.cast_unsigned())?;
+            four(bytes, lambda.cast_unsigned())?;
         }
         Command::ShadowPrice { house, line, price } => {
             bytes.extend_from_slice(&[house, line])?;
-            four(&mut bytes, price)?;
+            four(bytes, price)?;
         }
+        _ => {}
     }
+    Ok(())
+}
+
+/// The bytes that spell a command.
+pub fn encode(heap: Global, command: &Command) -> Result<Vec<u8>, AllocError>
+    ensures { IfOk result (λ v. v.items ≡ spelled command.now) }
+{
+    let mut bytes = Vec::from_slice(heap, &[command.letter()])?;
+    network_operands(&mut bytes, command)?;
+    hour_operands(&mut bytes, command)?;
+    sheet_operands(&mut bytes, command)?;
     Ok(bytes)
 }

@@ -23,6 +23,7 @@ pub enum Command {
         to_child: u32,
     },
     /// `R`: a line of a table.
+    // Two fields, as the operands of every command: network::Row has checked bounds, and these are not checked yet.
     Row {
         limit: u32,
         sensitivities: [i16; MOST_ZONES],

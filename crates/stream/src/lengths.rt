@@ -14,6 +14,7 @@ pub fn operand_length(letter: u8) -> Option<usize>
         .or(sheet_length(letter))
 }
 
+// Three tables: they mirror the three of specs/Reading, which decoding and encoding follow.
 fn network_length(letter: u8) -> Option<usize>
     ensures { result ≡ network_length letter }
 {

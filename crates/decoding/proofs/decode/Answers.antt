@@ -1,3 +1,4 @@
+-- Not `using`: with `groups` named on `decode`, its return stays open.
 use Rattle.decoding.proofs.Groups.{groups}
 use Rattle.decoding.proofs.decode.Goals as goal
 
