@@ -1,4 +1,4 @@
-use Rattle.std.proofs.Common.{◌≡◌, string_bytes, refl, ◌∙◌, subst, rules}
+use Rattle.std.proofs.Common.{string_bytes, refl, ◌∙◌, subst, rules}
 use Rattle.auction.specs.declared.House.TheVariants.{Zero, One}
 use Rattle.stream.specs.Spelling.{letter_of}
 use Rattle.reading.specs.Dialogues.{Ended}
