@@ -1,5 +1,6 @@
 -- The block and the hours, put together.
-use Rattle.std.proofs.Common.{◌≡◌, ℕ, Bool, true, false, List, MatchBool, sym, subst}
+use Rattle.std.proofs.Common.{◌≡◌, ℕ, Bool, true, false, List, OnOk, Result, MatchBool, sym, subst}
+use Rattle.std.proofs.lemmas.Result.{IfOk-weaker}
 use Rattle.auction.specs.Grids.{Grid}
 use Rattle.ground.specs.declared.Ground.{Ground}
 use Rattle.ground.specs.Grounds.{opened_ground}
@@ -30,6 +31,10 @@ block_alone bytes stream is footing bytes' at' text ended = subst (λ b. BlockAn
     (record { footing = footing; at = ended.at; block = ended.block; block_read = ended.block_read; rest = alone_of bytes (opened_ground footing) ended.at ended.block bytes' at' text ended.stands })
 
 -- the hours were heard over the network of an opened block
-pub heard_opened : (k : StreamKinds) (footing : Ground) (grid : Grid) (bytes : List ℕ) (at : ℕ) (before after : List ℕ) → opened_ground footing ≡ true → grid ≡ ground_grid footing → HoursAnswered k grid bytes at before after → HoursIfOpened k footing bytes at before after
-heard_opened k footing grid bytes at before after unlocked is heard =
+opened_hours : (k : StreamKinds) (footing : Ground) (grid : Grid) (bytes : List ℕ) (at : ℕ) (before after : List ℕ) → opened_ground footing ≡ true → grid ≡ ground_grid footing → HoursAnswered k grid bytes at before after → HoursIfOpened k footing bytes at before after
+opened_hours k footing grid bytes at before after unlocked is heard =
     subst (λ b. MatchBool b (HoursAnswered k (ground_grid footing) bytes at before after) (after ≡ before)) (sym unlocked) (subst (λ g. HoursAnswered k g bytes at before after) is heard)
+
+pub heard_opened : {E : Type 0} (r : Result (Unit {0}) E) (k : StreamKinds) (footing : Ground) (grid : Grid) (bytes : List ℕ) (at : ℕ) (before after : List ℕ) → opened_ground footing ≡ true → grid ≡ ground_grid footing → OnOk r (HoursAnswered k grid bytes at before after) → OnOk r (HoursIfOpened k footing bytes at before after)
+heard_opened r k footing grid bytes at before after unlocked is =
+    IfOk-weaker r (λ _. HoursAnswered k grid bytes at before after) (λ _. HoursIfOpened k footing bytes at before after) (λ _. opened_hours k footing grid bytes at before after unlocked is)

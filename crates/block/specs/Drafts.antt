@@ -41,15 +41,15 @@ phase_of (Tabled table) = Rows
 
 -- a link goes to a tree; where there is none, there is nothing to join
 abbrev pub LinkedOn : Draft → ℕ → ℕ → ℕ → Result (Unit {0}) Fault → Draft → Type 0
-LinkedOn Nothing parent up down r after = (r ≡ Err Missing) × (after ≡ Nothing)
-LinkedOn (Growing tree zones) parent up down r after = Answered r (NextExists (links_of tree) parent) (LimitsInRange up down) Always (λ _. IsTree after (links_of tree ++ link_with parent up down ∷ []) zones) (after ≡ Growing tree zones)
-LinkedOn (Tabled table) parent up down r after = (r ≡ Err Missing) × (after ≡ Tabled table)
+LinkedOn Nothing parent up down r after = r ≡ Err Missing
+LinkedOn (Growing tree zones) parent up down r after = Answered r (NextExists (links_of tree) parent) (LimitsInRange up down) Always (λ _. IsTree after (links_of tree ++ link_with parent up down ∷ []) zones) Always
+LinkedOn (Tabled table) parent up down r after = r ≡ Err Missing
 
 -- a row goes to a table
 abbrev pub RowedOn : Draft → ℕ → List ℤ → Result (Unit {0}) Fault → Draft → Type 0
-RowedOn Nothing limit row r after = (r ≡ Err Missing) × (after ≡ Nothing)
-RowedOn (Growing tree zones) limit row r after = (r ≡ Err Missing) × (after ≡ Growing tree zones)
-RowedOn (Tabled table) limit row r after = Answered r (OfZones (table_grid table).zones row) (NumbersInRange limit row) (length (table_grid table).lines < most_lines) (λ _. IsTable after (table_grid table).zones ((table_grid table).lines ++ line_of limit row ∷ [])) (after ≡ Tabled table)
+RowedOn Nothing limit row r after = r ≡ Err Missing
+RowedOn (Growing tree zones) limit row r after = r ≡ Err Missing
+RowedOn (Tabled table) limit row r after = Answered r (OfZones (table_grid table).zones row) (NumbersInRange limit row) (length (table_grid table).lines < most_lines) (λ _. IsTable after (table_grid table).zones ((table_grid table).lines ++ line_of limit row ∷ [])) Always
 
 -- The answer to a command of the base, and the base after it: a stranger's is refused first, then one that is not allowed now; each of the four is answered by the tree or the table. An accepted command leads to the phase that follows, and a refused one leaves the base as it was.
 pub record Grown (d : Draft) (c : Command) (r : Result (Unit {0}) Refusal) (after : Draft) : Type 0 where

@@ -31,6 +31,7 @@ impl Draft {
     {
         match self {
             Draft::Nothing => Phase::Start,
+            // Fits: a tree that grows is to have a zone count that is a byte.
             Draft::Growing { tree, zones } => {
                 to_come(usize::from(*zones).saturating_sub(tree.zones()) as u8)
             }

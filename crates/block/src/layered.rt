@@ -61,8 +61,7 @@ impl<N: Network> Layered<N> {
     pub fn into_network(self) -> HeldBack<Monitored<N>>
         ensures { result ≡ self.network }
     {
-        let Layered { stage: _, network } = self;
-        network
+        self.network
     }
 
     /// Was the box opened?
@@ -86,7 +85,7 @@ impl<N: Network> Layered<N> {
                 self.stage = Stage::Watched;
             }
             Command::HoldBack { line, kwh } => {
-                self.network.hold_back(line as usize, kwh)?;
+                self.network.hold_back(usize::from(line), kwh)?;
                 self.stage = Stage::Held;
             }
             _ => self.stage = Stage::Open,

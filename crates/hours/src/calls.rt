@@ -7,18 +7,8 @@ use history::{Call, Filling, Wish};
 use kinds::{TransferWish, ZoneWish};
 use stream::Command;
 
-/// What an offer or a bid asks for.
-fn in_zone(zone: u8, price: u32, quantity: u32) -> ZoneWish
-    ensures { result ≡ record { zone = zone; price = price; quantity = quantity } }
-{
-    ZoneWish {
-        zone,
-        price,
-        quantity,
-    }
-}
-
 /// The call that a command makes; none for one of the network block.
+// The three entries of a sheet have other fields each: a literal inside the call would be no shorter.
 pub fn call_of(command: &Command) -> Option<Call<ZoneWish, ZoneWish, TransferWish>>
     ensures { result ≡ call_of command.now }
 {
@@ -29,7 +19,11 @@ pub fn call_of(command: &Command) -> Option<Call<ZoneWish, ZoneWish, TransferWis
             price,
             quantity,
         } => {
-            let wish = Wish::First(in_zone(zone, price, quantity));
+            let wish = Wish::First(ZoneWish {
+                zone,
+                price,
+                quantity,
+            });
             Call::Enter { house, wish }
         }
         Command::Bid {
@@ -38,7 +32,11 @@ pub fn call_of(command: &Command) -> Option<Call<ZoneWish, ZoneWish, TransferWis
             price,
             quantity,
         } => {
-            let wish = Wish::Second(in_zone(zone, price, quantity));
+            let wish = Wish::Second(ZoneWish {
+                zone,
+                price,
+                quantity,
+            });
             Call::Enter { house, wish }
         }
         Command::Transfer {

@@ -7,7 +7,7 @@ ghost use Rattle.reading.specs.Dialogues.{Hears};
 
 use crate::{Placed, next_command};
 use auction::Refusal;
-use report::{Line, Outcome};
+use report::{Outcome, Said};
 use std::alloc::{AllocError, Global};
 use std::fmt::Write;
 use stream::Reader;
@@ -31,6 +31,7 @@ impl<'a> Dialogue<'a> {
     }
 
     /// The next command of the stream; none at the end, or at a fault, whose line is written.
+    // No Iterator: a line may find no memory, and the dialogue is spoken to between two commands.
     pub fn next(&mut self) -> Result<Option<Placed>, AllocError>
         ensures kept { self.new.reader.bytes.now ≡ self.old.reader.bytes.now }
         ensures heard { IfOk result (λ read. Hears self.old.reader.bytes.now self.old.reader.at (string_bytes self.old.lines) read self.new.reader.at (string_bytes self.new.lines)) }
@@ -53,11 +54,11 @@ impl<'a> Dialogue<'a> {
         ensures kept { self.new.reader ≡ self.old.reader }
         ensures said { OnOk result (string_bytes self.new.lines ≡ string_bytes self.old.lines ++ answer_text (record { offset = placed.now.offset; letter = letter_of placed.now.command }) answer) }
     {
-        let line = Line {
+        let said = Said {
             mark: placed.mark(),
             answer,
         };
-        write!(self.lines, "{line}")
+        write!(self.lines, "{said}")
     }
 }
 

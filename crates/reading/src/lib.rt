@@ -13,7 +13,7 @@ use report::{Mark, StreamFault};
 use stream::{Command, Reader};
 
 /// A command, and where it stands in the stream.
-#[derive(Clone, Copy)]
+#[derive(Clone, Copy, Debug, PartialEq, Eq)]
 pub struct Placed {
     pub offset: usize,
     pub command: Command,
@@ -32,6 +32,7 @@ impl Placed {
 }
 
 /// The next command of the stream; none at the end.
+#[tactic(auto, using(stream::proofs::Standing::longer))]
 pub fn next_command(reader: &mut Reader<'_>) -> Result<Option<Placed>, StreamFault>
     ensures { Next reader.old.bytes.now reader.old.at result reader.new.bytes.now reader.new.at }
 {

@@ -8,7 +8,7 @@ use Rattle.report.specs.declared.StreamFault.{StreamFault}
 use Rattle.report.specs.declared.Mark.{Mark}
 use Rattle.report.specs.declared.Outcome.{Outcome}
 use Rattle.report.specs.declared.Outcome.TheVariants.{Taken, Accepted}
-use Rattle.report.specs.declared.Line.{Line}
+use Rattle.report.specs.declared.Said.{Said}
 
 -- the refusal of the command with this letter, which begins at this offset
 abbrev pub stream_fault : ℕ → ℕ → Refusal → StreamFault
@@ -36,5 +36,5 @@ answer_text mark (Ok Taken) = taken_text mark.offset mark.letter
 answer_text mark (Ok (Accepted welfare rent accounts)) = accepted_text mark.offset mark.letter welfare rent accounts.zero accounts.one
 answer_text mark (Err refusal) = refused_text (stream_fault mark.offset mark.letter refusal)
 
-abbrev pub line_text : Line → List ℕ
-line_text line = answer_text line.mark line.answer
+abbrev pub line_text : Said → List ℕ
+line_text said = answer_text said.mark said.answer

@@ -10,7 +10,7 @@ use std::fmt;
 use stream::{Item, ReadFault};
 
 /// Where a command begins in the stream, and its letter.
-#[derive(Clone, Copy)]
+#[derive(Clone, Copy, Debug, PartialEq, Eq)]
 pub struct Mark {
     pub offset: usize,
     pub letter: u8,
@@ -45,13 +45,13 @@ impl fmt::Display for Mark {
 
     fn fmt<W: fmt::Write>(&self, f: &mut fmt::Formatter<W>) -> fmt::Result {
         let offset = self.offset;
-        let letter = self.letter as char;
+        let letter = char::from(self.letter);
         write!(f, "{offset} {letter}")
     }
 }
 
 /// A refusal met in the stream: of which command, and why.
-#[derive(Clone, Copy)]
+#[derive(Clone, Copy, Debug, PartialEq, Eq)]
 pub struct StreamFault {
     pub mark: Mark,
     pub refusal: Refusal,
@@ -69,7 +69,7 @@ impl From<ReadFault> for StreamFault {
     }
 }
 
-/// The line for a command that was refused.
+/// The line for a command that was refused, with its end of line.
 impl fmt::Display for StreamFault {
     ghost output = { λ fault. Some (refused_text fault) };
 
@@ -82,7 +82,7 @@ impl fmt::Display for StreamFault {
 }
 
 /// What a command that was taken brought about.
-#[derive(Clone, Copy)]
+#[derive(Clone, Copy, Debug, PartialEq, Eq)]
 pub enum Outcome {
     Taken,
     /// A sheet was accepted: its welfare and rent, and both accounts after the call.
@@ -94,14 +94,15 @@ pub enum Outcome {
 }
 
 /// What is said of a command: what it brought about, or why it was refused.
-#[derive(Clone, Copy)]
-pub struct Line {
+#[derive(Clone, Copy, Debug, PartialEq, Eq)]
+pub struct Said {
     pub mark: Mark,
     pub answer: Result<Outcome, Refusal>,
 }
 
-impl fmt::Display for Line {
-    ghost output = { λ line. Some (line_text line) };
+/// The line that says it, with its end of line.
+impl fmt::Display for Said {
+    ghost output = { λ said. Some (line_text said) };
 
     fn fmt<W: fmt::Write>(&self, f: &mut fmt::Formatter<W>) -> fmt::Result {
         let mark = self.mark;

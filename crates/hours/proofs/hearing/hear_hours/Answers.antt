@@ -1,8 +1,8 @@
-use Rattle.std.proofs.Common.{◌≡◌, ◌++◌, Some, Ok, string_bytes, refl, sym, ap, ◌∙◌, subst, rules}
+use Rattle.std.proofs.Common.{string_bytes, refl, ◌∙◌, subst, rules}
 use Rattle.auction.specs.declared.House.TheVariants.{Zero, One}
 use Rattle.stream.specs.Spelling.{letter_of}
-use Rattle.reading.specs.Next.{Found}
-use Rattle.reading.specs.Dialogues.{Ended, Hears}
+use Rattle.reading.specs.Dialogues.{Ended}
+use Rattle.reading.proofs.Saying.{found_and_said}
 use Rattle.history.specs.Keeping.{Keeps}
 use Rattle.clearing.specs.Views.{kinds_of, situation}
 use Rattle.hours.specs.Calls.{StreamHistory, call_of}
@@ -18,21 +18,16 @@ commands-preserved g c =
     let k = kinds_of g.X.OrderList g.Y.OrderList g.W.OrderList in
     let bytes = c.args.dialogue.now.reader.bytes.now in
     let placed = c.in-Some.placed in
-    let read : Hears c.commands.dialogue.reader.bytes.now c.commands.dialogue.reader.at (string_bytes c.commands.dialogue.lines) (Some placed) c.next.new.self.reader.at (string_bytes c.next.new.self.lines) = search rules in
-    let kept : c.say.new.dialogue.reader ≡ c.next.new.self.reader = search rules in
-    let same_bytes : c.next.new.self.reader.bytes.now ≡ c.commands.dialogue.reader.bytes.now = search rules in
-    let there : Found c.commands.dialogue.reader.bytes.now c.commands.dialogue.reader.at (Ok (Some placed)) c.say.new.dialogue.reader.at = subst (λ r. Found c.commands.dialogue.reader.bytes.now c.commands.dialogue.reader.at (Ok (Some placed)) r.at) (sym kept) read.0 in
-    let found : Found bytes c.commands.dialogue.reader.at (Ok (Some placed)) c.say.new.dialogue.reader.at = subst (λ b. Found b c.commands.dialogue.reader.at (Ok (Some placed)) c.say.new.dialogue.reader.at) c.commands.invariant.1 there in
     let held = situation g.X.OrderList g.Y.OrderList g.W.OrderList c.commands.clearing in
     let held' = situation g.X.OrderList g.Y.OrderList g.W.OrderList c.answer-answered.new.clearing in
     let goes_on : (h : StreamHistory) → Keeps k (g.N.Network.grid c.open-clearing.result.network) h held → Keeps k (g.N.Network.grid c.open-clearing.result.network) (with_call (call_of placed.command) c.answer-answered.result h) held'
     = subst (λ n. (h : StreamHistory) → Keeps k (g.N.Network.grid n) h held → Keeps k (g.N.Network.grid n) (with_call (call_of placed.command) c.answer-answered.result h) held') c.commands.invariant.0 c.answer-answered.ensures.goes_on in
     let line = line_of placed.offset (letter_of placed.command) c.answer-answered.result (held'.account Zero) (held'.account One) in
-    let said : string_bytes c.say.new.dialogue.lines ≡ string_bytes c.next.new.self.lines ++ line = c.in_ok-say.ensures.said in (
+    let (same, found, said) = found_and_said bytes c.commands.dialogue c.next.new.self c.say.new.dialogue placed line c.commands.invariant.1 (search rules) (search rules) (search rules) c.in_ok-say.ensures.said in (
       c.answer-answered.ensures.same_network ∙ c.commands.invariant.0,
-      ap (λ r. r.bytes.now) kept ∙ same_bytes ∙ c.commands.invariant.1,
+      same,
       one_more k (g.N.Network.grid c.open-clearing.result.network) bytes c.args.dialogue.now.reader.at (string_bytes c.args.dialogue.now.lines) c.commands.dialogue.reader.at (string_bytes c.commands.dialogue.lines) held placed c.say.new.dialogue.reader.at (string_bytes c.say.new.dialogue.lines) held' c.answer-answered.result
-          c.commands.invariant.2 found c.answer-answered.ensures.not_now goes_on (said ∙ ap (λ t. t ++ line) read.1),
+          c.commands.invariant.2 found c.answer-answered.ensures.not_now goes_on said,
     )
 
 pub returns : goal.returns
