@@ -17,11 +17,8 @@ impl Table {
     pub fn new(zones: u8) -> Result<Table, Fault>
         ensures { Answered result (ZonesExist zones) Always Always (λ table. ((table_grid table).zones ≡ zones) × ((table_grid table).lines ≡ [])) Always }
     {
-        if zones < 1 {
-            return Err(Fault::Missing);
-        }
-        let zones = zones as usize;
-        if zones > MOST_ZONES {
+        let zones = usize::from(zones);
+        if !(1..=MOST_ZONES).contains(&zones) {
             return Err(Fault::Missing);
         }
         let rows = RowList::new(Row::blank());

@@ -62,7 +62,7 @@ impl Kind for Transfer {
     }
 
     fn row(house: House, wish: TransferWish, zones: usize) -> Result<Row, Fault> {
-        if wish.first.max(wish.second) as usize >= zones || wish.first == wish.second {
+        if usize::from(wish.first.max(wish.second)) >= zones || wish.first == wish.second {
             return Err(Fault::Missing);
         }
         Row {
