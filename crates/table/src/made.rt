@@ -30,6 +30,7 @@ impl Table {
     pub fn add(&mut self, limit: u32, sensitivities: [i16; MOST_ZONES]) -> Result<(), Fault>
         ensures { Answered result (OfZones (table_grid self.old).zones sensitivities) (NumbersInRange limit sensitivities) (length (table_grid self.old).lines < most_lines) (λ _. ((table_grid self.new).zones ≡ (table_grid self.old).zones) × ((table_grid self.new).lines ≡ (table_grid self.old).lines ++ line_of limit sensitivities ∷ [])) ((self.new.zones ≡ self.old.zones) × (self.new.rows ≡ self.old.rows)) }
     {
+        // Limit and sensitivities come apart: they are a row only where the zones of the network are known.
         let row = Row::new(self.zones, limit, sensitivities)?;
         self.rows.push(row)
     }

@@ -85,6 +85,7 @@ impl Kind for Transfer {
     }
 
     fn worth(&self, quantity: u32) -> i64 {
+        // Returned at once, here and for what is fed in: a function over the answer would hide which is asked first.
         if quantity > self.terms.quantity {
             return 0;
         }
