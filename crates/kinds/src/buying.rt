@@ -16,6 +16,7 @@ pub struct Buying;
 /// An order that takes energy from its zone and is worth its price, in cents per MWh. Its quantity is the largest, in kWh.
 pub type Bid = ZoneOrder<Buying>;
 
+// Of this side alone, as the content is: the slopes and the laws of gain differ.
 /// What a kWh of a bid gains at these zone prices.
 fn slope(order: &Bid, prices: &[i32; MOST_ZONES]) -> i64
     ensures { result ≡ bid_slope prices.now order.now.zone order.now.terms.price }

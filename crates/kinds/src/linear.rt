@@ -26,7 +26,7 @@ impl ZoneWish {
         ensures { Answered result (self.zone < zones) (InRange self.price self.quantity) Always
             (λ row. Ranged row × (row.house ≡ house) × (row.first ≡ self.zone) × (row.second ≡ self.zone) × (row.price ≡ self.price) × (row.quantity ≡ self.quantity)) Always }
     {
-        if self.zone as usize >= zones {
+        if usize::from(self.zone) >= zones {
             return Err(Fault::Missing);
         }
         // A row is written with its fields' names, here and for a transfer: five numbers in a call would be easy to swap.
@@ -53,7 +53,7 @@ pub(crate) fn money(terms: Terms, quantity: u32) -> i64
 pub fn fed(quantity: u32, target: u8, zone: usize) -> i64
     ensures { result ≡ into target quantity zone }
 {
-    if zone == target as usize {
+    if zone == usize::from(target) {
         i64::from(quantity)
     } else {
         0
@@ -66,7 +66,7 @@ pub fn zone_price(prices: &[i32; MOST_ZONES], zone: u8) -> i64
     ensures size { unsigned_abs result ≤ 2147483648 }
 {
     prices
-        .get(zone as usize)
+        .get(usize::from(zone))
         .map_or(0, |price| i64::from(*price))
 }
 

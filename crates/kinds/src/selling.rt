@@ -16,6 +16,7 @@ pub struct Selling;
 /// An order that feeds energy into its zone and is worth minus its price, in cents per MWh. Its quantity is the largest, in kWh.
 pub type Offer = ZoneOrder<Selling>;
 
+// Of this side alone, as the content is: the slopes and the laws of gain differ.
 /// What a kWh of an offer gains at these zone prices.
 fn slope(order: &Offer, prices: &[i32; MOST_ZONES]) -> i64
     ensures { result ≡ offer_slope prices.now order.now.zone order.now.terms.price }

@@ -1,7 +1,7 @@
 //! The price and the largest quantity of an order.
 
-ghost use Rattle.std.specs.Prelude.{◌≡◌, ◌<◌, ◌≤◌, MatchOption};
-ghost use Rattle.auction.specs.Bounds.{most_price, most_kwh};
+ghost use Rattle.std.specs.Prelude.{◌≡◌, MatchOption};
+ghost use Rattle.rows.specs.Bounds.{InRange};
 ghost use Rattle.rows.specs.Rows.{Ranged};
 
 use rows::Row;
@@ -11,9 +11,7 @@ use rows::Row;
 pub struct Terms {
     pub price: u32,
     pub quantity: u32,
-    ghost cheap: { price ≤ most_price },
-    ghost some: { 0 < quantity },
-    ghost modest: { quantity ≤ most_kwh },
+    ghost ranged: { InRange price quantity },
 }
 
 impl Terms {

@@ -1,17 +1,14 @@
 -- Which line stands where in a network with watched lines.
-use Rattle.std.specs.Prelude.{◌≡◌, ℕ, zero, suc, ◌⊎◌, map, Ok, Err, Result, MatchOption, slice_get, ◌+◌, ◌-◌, ◌<◌, ◌≤◌, min, cond, List, [], ◌∷◌, ◌++◌, length, get_or, take, pos, nat_lt, slice_index_or, unsigned_abs, refl}
+use Rattle.std.specs.Prelude.{◌≡◌, ℕ, ◌+◌, ◌-◌, ◌<◌, ◌≤◌, min, cond, List, [], ◌∷◌, ◌++◌, length, get_or, take, pos, nat_lt, slice_index_or, unsigned_abs, refl}
 use Rattle.std.proofs.Common.{sym, ap, subst, ◌∙◌, ⊎_elim, append_assoc, arith}
-use Rattle.std.proofs.lemmas.List.{length-map, map_push, length-take, length-append, get_or-take, get_or_past, get_or_append_left, get_or-append_right, take_all, append-nil}
+use Rattle.std.proofs.lemmas.List.{length-take, length-append, get_or-take, get_or_past, get_or_append_left, get_or-append_right, take_all, append-nil}
 use Rattle.std.proofs.lemmas.Bool.{cases_lt}
 use Rattle.auction.specs.Grids.{Line, Grid, no_line, line_count, limit_at, sensitivity_at}
 use Rattle.auction.specs.Bounds.{most_lines, most_kwh, most_sensitivity}
 use Rattle.network.specs.declared.row.Row.{Row}
-use Rattle.auction.specs.declared.Fault.{Fault}
-use Rattle.auction.specs.declared.Fault.TheVariants.{Missing, OutOfRange, NoPlace}
-use Rattle.auction.specs.Refusals.{Always, Answered}
-use Rattle.network.specs.Rows.{row_line, lines_of}
+use Rattle.network.specs.Rows.{lines_of}
 use Rattle.network.proofs.Lines.{lines_limited, lines_sensitive, masked}
-use Rattle.layers.specs.Watched.{most_watched, watched_grid, PlaceLeft}
+use Rattle.layers.specs.Watched.{watched_grid}
 
 pub watched_count : (below : Grid) (rows : List Line) → line_count (watched_grid below rows) ≡ min most_lines (line_count below + length rows)
 watched_count below rows = length-take most_lines (below.lines ++ rows) ∙ ap (min most_lines) (length-append below.lines rows)
@@ -27,19 +24,6 @@ line_beyond below rows l beyond = get_or_past (watched_grid below rows).lines l 
 pub line_watched : (below : Grid) (rows : List Line) (n l : ℕ) → n ≡ line_count below → n ≤ l → l < most_lines → slice_index_or (watched_grid below rows).lines l no_line ≡ slice_index_or rows (l - n) no_line
 line_watched below rows n l same past within =
     get_or-take most_lines (below.lines ++ rows) l no_line within ∙ get_or-append_right below.lines rows n l no_line (sym same) past
-
--- a line that is not among the watched ones is one below, or none at all
-pub line_elsewhere : (below : Grid) (rows : List Line) (n l : ℕ) → n ≡ line_count below → n ≤ most_lines → (l < n) ⊎ ((n ≤ l) × (most_lines ≤ l)) → slice_index_or (watched_grid below rows).lines l no_line ≡ slice_index_or below.lines l no_line
-line_elsewhere below rows n l same few elsewhere =
-    ⊎_elim (λ within. line_below below rows l (omega arith) (omega arith))
-    (λ beyond. line_beyond below rows l beyond.1 ∙ sym (get_or_past below.lines l no_line (omega arith)))
-    elsewhere
-
--- what is found at an index among the rows, for a line that is none of those below
-pub row_found : (rows : List Row) (i : ℕ) (line below : Line) → line ≡ slice_index_or (map row_line rows) i no_line → below ≡ no_line → MatchOption (slice_get rows i) (line ≡ below) (λ row. row_line row ≡ line)
-row_found [] i line below read none = read ∙ sym none
-row_found (row ∷ rows) zero line below read none = sym read
-row_found (row ∷ rows) (suc i) line below read none = row_found rows i line below read none
 
 -- what holds of every line below, of every watched line and of none
 pub every_line : (P : Line → Type 0) (below : Grid) (rows : List Line) → P no_line → ((l : ℕ) → P (slice_index_or below.lines l no_line)) → ((l : ℕ) → P (slice_index_or rows l no_line)) → line_count below ≤ most_lines → (l : ℕ) → P (slice_index_or (watched_grid below rows).lines l no_line)
@@ -62,17 +46,6 @@ watched_more below rows line place =
     ap (take most_lines) (sym (append_assoc below.lines rows (line ∷ [])))
     ∙ take_all most_lines (xs ++ line ∷ []) (omega (arith, n, m, length-append xs (line ∷ [])))
     ∙ sym (ap (λ ys. ys ++ line ∷ []) (take_all most_lines xs (omega (arith, n, m))))
-
--- so much is said of one more row, by what its list answers
-pub appended : (below : Grid) (old new : List Row) (row : Row) (Same : Type 0) (answer : Result (Unit {0}) Fault) → line_count (watched_grid below (map row_line old)) < most_lines → Answered answer Always Always (length old < most_watched) (λ _. new ≡ old ++ row ∷ []) Same → Answered answer Always Always (PlaceLeft below (map row_line old)) (λ _. (watched_grid below (map row_line new)).lines ≡ (watched_grid below (map row_line old)).lines ++ row_line row ∷ []) Same
-appended below old new row Same (Ok x) fits (a, b, place, more) =
-    let count = length-map old row_line in
-    let line = ap (λ (rows : List Row). (watched_grid below (map row_line rows)).lines) more ∙ ap (λ (lines : List Line). (watched_grid below lines).lines) (map_push row_line old row) in
-    (a, b, (fits, omega arith), line ∙ watched_more below (map row_line old) (row_line row) fits)
-appended below old new row Same (Err Missing) fits told = told
-appended below old new row Same (Err OutOfRange) fits told = told
-appended below old new row Same (Err NoPlace) fits ((a, b, full), same) =
-    ((a, b, λ place. full (omega (arith, place.1, length-map old row_line))), same)
 
 pub watched_none : (below : Grid) (rows : List Line) → rows ≡ [] → line_count below ≤ most_lines → (watched_grid below rows).lines ≡ below.lines
 watched_none below rows none few =

@@ -41,6 +41,7 @@ impl Amounts {
     }
 }
 
+// The network below is held by value: no memory is asked for.
 /// Each line's limit is lowered by the amount that is held back of it, to no less than 0.
 #[derive(Clone, Copy)]
 pub struct HeldBack<N> {
@@ -99,6 +100,7 @@ impl<N: Network> HeldBack<Monitored<N>> {
         ensures watched { Answered result (OfZones (N.Network.grid self.old.below.below).zones sensitivities) (NumbersInRange limit sensitivities) (PlaceLeft (N.Network.grid self.old.below.below) (lines_in self.old.below.watched)) (λ _. (self.new.below.below ≡ self.old.below.below) × ((monitored_grid N.Network.grid self.new.below).lines ≡ (monitored_grid N.Network.grid self.old.below).lines ++ line_of limit sensitivities ∷ [])) ((self.new.below.below ≡ self.old.below.below) × (self.new.below.watched ≡ self.old.below.watched)) }
         ensures held { self.new.amounts ≡ self.old.amounts }
     {
+        // Limit and sensitivities come apart: they are a row only where the zones of the network are known.
         self.below.watch(limit, sensitivities)
     }
 }

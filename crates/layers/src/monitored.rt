@@ -14,6 +14,7 @@ use auction::Fault;
 use auction::bounds::{MOST_LINES, MOST_MONITORED, MOST_ZONES};
 use network::{Network, Row, RowList};
 
+// The network below and the rows are held by value: no memory is asked for.
 /// The lines below come first, then the watched ones, 60 in all.
 #[derive(Clone, Copy)]
 pub struct Monitored<N> {
@@ -37,6 +38,7 @@ impl<N: Network> Monitored<N> {
     pub fn watch(&mut self, limit: u32, sensitivities: [i16; MOST_ZONES]) -> Result<(), Fault>
         ensures { Answered result (OfZones (N.Network.grid self.old.below).zones sensitivities) (NumbersInRange limit sensitivities) (PlaceLeft (N.Network.grid self.old.below) (lines_in self.old.watched)) (λ _. (self.new.below ≡ self.old.below) × ((monitored_grid N.Network.grid self.new).lines ≡ (monitored_grid N.Network.grid self.old).lines ++ line_of limit sensitivities ∷ [])) ((self.new.below ≡ self.old.below) × (self.new.watched ≡ self.old.watched)) }
     {
+        // Limit and sensitivities come apart: they are a row only where the zones of the network are known.
         let row = Row::new(self.below.zones(), limit, sensitivities)?;
         self.append(row)
     }

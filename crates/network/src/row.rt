@@ -5,6 +5,7 @@ ghost use Rattle.auction.specs.Bounds.{most_zones, most_kwh, most_sensitivity};
 
 use auction::bounds::MOST_ZONES;
 
+// An array for all zones that a network may have: no memory is asked for.
 /// A line's limit, in kWh, and its sensitivities, in thousandths.
 #[derive(Clone, Copy)]
 pub struct Row {

@@ -39,6 +39,7 @@ impl Row {
     }
 
     /// A line of a network with so many zones: refused where it has a sensitivity for another zone, else where a number is out of range.
+    // Limit and sensitivities come apart: they are a row only where the zones of the network are known.
     pub fn new(zones: usize, limit: u32, sensitivities: [i16; MOST_ZONES]) -> Result<Row, Fault>
         ensures { Answered result (OfZones zones sensitivities) (NumbersInRange limit sensitivities) Always (λ row. row_line row ≡ line_of limit sensitivities) Always }
     {

@@ -1,4 +1,4 @@
--- What the lists of offers, bids and transfers take: each asks of a wish what the kind of its orders says, in its ghost members.
+-- What the lists of offers, bids and transfers take: each asks of a wish what the kind of its orders says, a transfer in its ghost members, an offer and a bid in the definitions that every order with one zone has for its own.
 use Rattle.kinds.specs.declared.ZoneWish.{ZoneWish}
 use Rattle.kinds.specs.declared.TransferWish.{TransferWish}
 use Rattle.kinds.specs.Wishes.{order_wished, zone_found, terms_fit}

@@ -31,6 +31,8 @@ pub trait OrderList {
     /// Whether the wish's numbers are in range.
     ghost ranged: { Self.Wish → Type 0 };
 
+    // The order that is asked for is written out in each clause: a name for it and its field would hide which field is read.
+
     /// How many orders were entered.
     fn count(&self) -> usize
         ensures { result ≡ length (entries self.now) };

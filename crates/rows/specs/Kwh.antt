@@ -1,4 +1,4 @@
--- One row: its range, and its kWh.
+-- The range of a row, and the kWh of rows.
 use Rattle.std.specs.Prelude.{ℕ, ◌+◌, false, cond, List, [], ◌∷◌}
 use Rattle.auction.specs.declared.House.TheVariants.{Zero}
 use Rattle.rows.specs.declared.row.Row.{Row}

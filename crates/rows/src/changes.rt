@@ -55,6 +55,7 @@ impl Rows {
         };
         if row.standing {
             self.standing -= row.quantity;
+            // It is there: it was just read.
             let _ = self.rows.set(
                 number,
                 Row {

@@ -3,7 +3,7 @@
 use auction::House;
 
 /// Whose order it is, whether it stands, its zones, its price in cents per MWh and its largest quantity in kWh. Where a kind of order has one zone, the second is that zone again.
-#[derive(Clone, Copy)]
+#[derive(Clone, Copy, PartialEq, Eq, Debug)]
 pub struct Row {
     pub house: House,
     pub standing: bool,

@@ -17,11 +17,8 @@ impl Table {
     pub fn new(zones: u8) -> Result<Table, Fault>
         ensures { Answered result (ZonesExist zones) Always Always (λ table. ((table_grid table).zones ≡ zones) × ((table_grid table).lines ≡ [])) Always }
     {
-        if zones < 1 {
-            return Err(Fault::Missing);
-        }
-        let zones = zones as usize;
-        if zones > MOST_ZONES {
+        let zones = usize::from(zones);
+        if !(1..=MOST_ZONES).contains(&zones) {
             return Err(Fault::Missing);
         }
         let rows = RowList::new(Row::blank());
@@ -33,6 +30,7 @@ impl Table {
     pub fn add(&mut self, limit: u32, sensitivities: [i16; MOST_ZONES]) -> Result<(), Fault>
         ensures { Answered result (OfZones (table_grid self.old).zones sensitivities) (NumbersInRange limit sensitivities) (length (table_grid self.old).lines < most_lines) (λ _. ((table_grid self.new).zones ≡ (table_grid self.old).zones) × ((table_grid self.new).lines ≡ (table_grid self.old).lines ++ line_of limit sensitivities ∷ [])) ((self.new.zones ≡ self.old.zones) × (self.new.rows ≡ self.old.rows)) }
     {
+        // Limit and sensitivities come apart: they are a row only where the zones of the network are known.
         let row = Row::new(self.zones, limit, sensitivities)?;
         self.rows.push(row)
     }

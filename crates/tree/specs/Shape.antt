@@ -1,5 +1,5 @@
 -- The grid of a tree is the network that the tree means.
-use Rattle.std.specs.Prelude.{◌≡◌, ℕ, ◌+◌, ◌-◌, ◌*◌, ◌/◌, ◌%◌, ◌<◌, ◌≤◌, true, false, List, [], ◌∷◌, ◌++◌, length, get_or, take, set, pos, neg_ℤ, ◌≢◌, nat_eq, nat_lt, slice_index_or, slice_set, unsigned_abs, refl}
+use Rattle.std.specs.Prelude.{◌≡◌, ℕ, ◌+◌, ◌-◌, ◌*◌, ◌/◌, ◌%◌, ◌<◌, ◌≤◌, true, false, List, length, get_or, take, set, pos, neg_ℤ, ◌≢◌, nat_eq, nat_lt, slice_index_or, slice_set, unsigned_abs, refl}
 use Rattle.std.proofs.Common.{sym, ap, subst, ◌∙◌, ⊎_elim, arith, eq-eqb}
 use Rattle.std.proofs.lemmas.List.FromFn.{length-map-range_with_len, get_or-map-range_with_len}
 use Rattle.std.proofs.lemmas.List.{get_or_past, get_or-take, get_or-set_same, get_or-set_other, length-take, length-take-le}
@@ -12,7 +12,7 @@ use Rattle.tree.specs.declared.grown.Link.{Link}
 use Rattle.tree.specs.declared.grown.Tree.{Tree}
 use Rattle.tree.specs.Links.{most_links, no_link, zone_count, Descends}
 use Rattle.tree.specs.Trees.{links_of, share, line_to_parent, line_to_child, tree_line, tree_lines, tree_grid, TreeShaped, Shaped}
-use Rattle.tree.specs.Descent.{Rooted, rooted_take, share_below, share_elsewhere, share_in_range}
+use Rattle.tree.specs.Descent.{Rooted, share_below, share_elsewhere, share_in_range}
 
 pub lines_is : (links : List Link) → line_count (tree_grid links) ≡ 2 * length links
 unfolding tree_lines
@@ -155,10 +155,10 @@ rooted_written t new smaller place i =
     ⊎_elim
     (λ within.
     rw (get_or-take (t.links.count + 1) written i no_link within) (
-      ⊎_elim
-      (λ e. rw (e, get_or-set_same t.links.rows t.links.count new no_link (omega arith)) smaller)
-      (λ other. rw (get_or-set_other t.links.rows t.links.count i new no_link other) (rw (← link_read t i (omega arith)) (rooted t i)))
-      (cases_eq i t.links.count)))
+    ⊎_elim
+    (λ e. rw (e, get_or-set_same t.links.rows t.links.count new no_link (omega arith)) smaller)
+    (λ other. rw (get_or-set_other t.links.rows t.links.count i new no_link other) (rw (← link_read t i (omega arith)) (rooted t i)))
+    (cases_eq i t.links.count)))
     (λ past. rw (get_or_past (take (t.links.count + 1) written) i no_link (omega (arith, length-take (t.links.count + 1) written))) (omega arith))
     (cases_lt i (t.links.count + 1))
 

@@ -32,7 +32,7 @@ impl Tree {
         ensures shaped { Shaped self.new }
     {
         let next = self.next_zone();
-        if next >= MOST_ZONES || parent as usize >= next {
+        if next >= MOST_ZONES || usize::from(parent) >= next {
             return Err(Fault::Missing);
         }
         if to_parent > MOST_KWH || to_child > MOST_KWH {

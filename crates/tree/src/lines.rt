@@ -49,8 +49,9 @@ impl Tree {
     {
         let links = self.links.as_slice();
         let mut at = zone;
+        // A loop: it climbs from child to parent, and counts nothing.
         while at > child {
-            at = links[at - 1].parent as usize;
+            at = usize::from(links[at - 1].parent);
         }
         at == child
     }

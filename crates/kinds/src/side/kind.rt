@@ -52,6 +52,7 @@ impl<S: Side> Kind for ZoneOrder<S> {
     }
 
     fn worth(&self, quantity: u32) -> i64 {
+        // Returned at once, here and for what is fed in: a function over the answer would hide which is asked first.
         if quantity > self.terms.quantity {
             return 0;
         }

@@ -62,7 +62,7 @@ impl Kind for Transfer {
     }
 
     fn row(house: House, wish: TransferWish, zones: usize) -> Result<Row, Fault> {
-        if wish.first.max(wish.second) as usize >= zones || wish.first == wish.second {
+        if usize::from(wish.first.max(wish.second)) >= zones || wish.first == wish.second {
             return Err(Fault::Missing);
         }
         Row {
@@ -85,6 +85,7 @@ impl Kind for Transfer {
     }
 
     fn worth(&self, quantity: u32) -> i64 {
+        // Returned at once, here and for what is fed in: a function over the answer would hide which is asked first.
         if quantity > self.terms.quantity {
             return 0;
         }

@@ -1,5 +1,6 @@
-use Rattle.std.proofs.Common.{◌≡◌, take, refl, arith}
-use Rattle.layers.specs.Piled.{appended}
+use Rattle.std.proofs.Common.{◌≡◌, refl, arith}
+use Rattle.filled.specs.Lists.{kept}
+use Rattle.layers.proofs.Piling.{appended}
 use Rattle.layers.proofs.monitored.Monitored.append.Goals as goal
 
 pub returns : goal.returns
@@ -8,7 +9,7 @@ returns g c =
     let new = c.push.new.self in
     record {
       lines =
-          appended (g.N.Network.grid old.below) (take old.watched.count old.watched.rows) (take new.count new.rows) c.args.row (new ≡ old.watched) c.push.result (omega arith)
+          appended (g.N.Network.grid old.below) (kept old.watched) (kept new) c.args.row (new ≡ old.watched) c.push.result (omega arith)
           c.push.ensures;
       below = refl;
     }

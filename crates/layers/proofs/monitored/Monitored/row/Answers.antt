@@ -1,8 +1,10 @@
-use Rattle.std.proofs.Common.{◌-◌, take, arith}
+use Rattle.std.proofs.Common.{◌-◌, arith}
 use Rattle.std.proofs.lemmas.List.{get_or_past}
 use Rattle.auction.specs.Grids.{no_line}
+use Rattle.filled.specs.Lists.{kept}
 use Rattle.network.specs.Rows.{lines_in}
-use Rattle.layers.specs.Piled.{line_elsewhere, line_watched, row_found}
+use Rattle.layers.specs.Piled.{line_watched}
+use Rattle.layers.proofs.Piling.{line_elsewhere, row_found}
 use Rattle.layers.proofs.monitored.Monitored.row.Goals as goal
 
 pub returns : goal.returns
@@ -12,7 +14,7 @@ returns g c =
     let n = c.lines-below.result in
     let line = c.args.line in
     rw c.get.ensures
-    (row_found (take m.watched.count m.watched.rows) (line - n) _ _
+    (row_found (kept m.watched) (line - n) _ _
     (line_watched below (lines_in m.watched) n line c.lines-below.ensures (omega arith) (omega arith))
     (get_or_past below.lines line no_line (omega arith)))
 
