@@ -1,12 +1,13 @@
 -- How the places that a text was cut at make up what it writes.
-use Rattle.std.proofs.Common.{◌≡◌, ℕ, zero, suc, ◌+◌, ◌-◌, ◌<◌, ◌≤◌, Bool, true, false, not, ◌||◌, eqb, ◌⊎◌, List, [], ◌∷◌, ◌++◌, length, get_or, take, drop, ℤ, MatchBool, sym, refl, ap, ◌∙◌, subst, inl, inr, append_assoc, arith, ne_eqb, eqb-true}
+use Rattle.std.proofs.Common.{◌≡◌, ℕ, zero, suc, ◌+◌, ◌-◌, ◌<◌, ◌≤◌, Bool, true, false, not, ◌||◌, eqb, List, [], ◌∷◌, ◌++◌, length, get_or, take, drop, ℤ, MatchBool, sym, refl, ap, ◌∙◌, subst, inl, inr, append_assoc, arith, eqb-true}
 use borrow.Author.Tests.{eqb-false}
-use Rattle.std.proofs.lemmas.List.{drop_all, drop-drop, drop_more, get_or-drop, get_or_past, get_or-take, length-take, take-append-drop, append-nil}
-use Rattle.std.proofs.lemmas.Bool.{cases_lt}
+use Rattle.std.proofs.lemmas.List.{drop_all, drop-drop, drop_more, get_or-drop, get_or_past, get_or-take, length-take, length-append, take-append-drop, append-nil}
+use Rattle.std.proofs.Math.Seq.{get_or-append_seam}
+use Rattle.std.proofs.lemmas.Bool.{cases_lt, false≢true}
 use Rattle.stream.specs.declared.Command.{Command}
 use Rattle.parsing.specs.Numbers.{Means}
 use Rattle.notation.specs.Scanning.{is_blank, is_word, ends_command, ends_line, FirstStop}
-use Rattle.notation.specs.Writing.{IsNumber, WordEnds, LineEnds, Numbers, no_number, skip_blank, number, Piece, no_command, leading_blank, command, EndsPiece, Writes, last, ended, noted}
+use Rattle.notation.specs.Writing.{WordEnds, LineEnds, Numbers, no_number, skip_blank, Piece, no_command, leading_blank, command, EndsPiece, Writes, last, ended, noted}
 
 -- a text from one place on is the stretch up to another place, and the text from there on
 cut : (text : List ℕ) (i j : ℕ) → i ≤ j → take (j - i) (drop i text) ++ drop j text ≡ drop i text
@@ -43,51 +44,32 @@ pub word_ends : (text : List ℕ) (i j : ℕ) → FirstStop text i is_blank j �
 word_ends text i j stop =
     elim (cases_lt j (length text)) [ inl there ↦ subst WordEnds (sym (drop_more text j 0 there)) (stop.here there) | inr past ↦ subst WordEnds (sym (drop_all j text past)) tt ]
 
--- The numbers of a text, as far as they were read: whatever the rest writes comes after those that were found.
-pub record Found (text : List ℕ) (from at : ℕ) (found : List ℤ) : Type 0 where
-  pub more : at ≤ length text → (rest : List ℤ) → Numbers (drop at text) rest → Numbers (drop from text) (found ++ rest)
-  pub all : length text < at → Numbers (drop from text) found
+-- The numbers of a text, as far as its words were read: whatever the rest writes comes after those that were found.
+pub record Found (text rest : List ℕ) (done : Bool) (found : List ℤ) : Type 0 where
+  pub more : done ≡ false → (numbers : List ℤ) → Numbers rest numbers → Numbers text (found ++ numbers)
+  pub all : done ≡ true → Numbers text found
 
-pub none_found : (text : List ℕ) (from at : ℕ) → from ≤ length text → FirstStop text from is_word at → Found text from at []
-none_found text from at within stop =
+pub none_found : (text : List ℕ) → Found text text false []
+none_found text = record { more = λ _ numbers ns. ns; all = λ past. absurd (false≢true past) }
+
+-- one word more, which writes one number, or none where it is empty
+pub one_word : (text rest next word : List ℕ) (was is : Bool) (found one : List ℤ) → was ≡ false → MatchBool is (rest ≡ word) ((y : ℕ) × (rest ≡ word ++ (y ∷ next))) → (length word < length rest → is_blank (get_or rest (length word) 0) ≡ true) → ((tail : List ℕ) (numbers : List ℤ) → WordEnds tail → Numbers tail numbers → Numbers (word ++ tail) (one ++ numbers)) → Found text rest was found → Found text next is (found ++ one)
+one_word text rest next word was true found one goes whole blank writes so =
+    let here : Numbers rest (one ++ []) = subst (λ (l : List ℕ). Numbers l (one ++ [])) (append-nil word ∙ sym whole) (writes [] [] tt no_number) in
     record {
-      more = λ here rest ns. up_to_word (λ (l : List ℕ). Numbers l rest) (λ b l e p. skip_blank b l rest e p) text from at within stop ns;
-      all = λ past. absurd (omega (arith, stop.within within));
+      more = λ on. absurd (false≢true (sym on));
+      all = λ _. subst (λ (l : List ℤ). Numbers text (found ++ l)) (append-nil one) (so.more goes (one ++ []) here);
     }
-
--- one number more, in the word from `at` to `end`
-pub one_found : (text : List ℕ) (from at end next : ℕ) (found : List ℤ) (n : ℤ) → at < length text → FirstStop text at is_blank end → FirstStop text (end + 1) is_word next → IsNumber (take (end - at) (drop at text)) n → Found text from at found → Found text from next (found ++ (n ∷ []))
-one_found text from at end next found n there stop stop' is so =
-    record { more = λ here rest ns. longer here rest ns; all = λ past. whole past }
+one_word text rest next word was false found one goes (y, cut_at) blank writes so =
+    record { more = λ _ numbers ns. longer numbers ns; all = λ past. absurd (false≢true past) }
   where
-    put : (rest : List ℤ) → Numbers (drop end text) rest → Numbers (drop from text) (found ++ (n ∷ rest))
-    put rest ns =
-        let split : take (end - at) (drop at text) ++ drop end text ≡ drop at text = cut text at end stop.onward in
-        so.more (omega arith) (n ∷ rest) (subst (λ (l : List ℕ). Numbers l (n ∷ rest)) split (number (take (end - at) (drop at text)) (drop end text) n rest is (word_ends text at end stop) ns))
-
-    longer : next ≤ length text → (rest : List ℤ) → Numbers (drop next text) rest → Numbers (drop from text) ((found ++ (n ∷ [])) ++ rest)
-    longer here rest ns =
-        let onward : end + 1 ≤ next = stop'.onward in
-        let inside : end < length text = omega arith in
-        let after : Numbers (drop (end + 1) text) rest = up_to_word (λ (l : List ℕ). Numbers l rest) (λ b l e p. skip_blank b l rest e p) text (end + 1) next (omega arith) stop' ns in
-        let from_end : Numbers (drop end text) rest = subst (λ (l : List ℕ). Numbers l rest) (sym (drop_more text end 0 inside)) (skip_blank (get_or text end 0) (drop (end + 1) text) rest (stop.here inside) after) in
-        subst (λ (l : List ℤ). Numbers (drop from text) l) (sym (append_assoc found (n ∷ []) rest)) (put rest from_end)
-
-    at_end : (end < length text) ⊎ (length text ≤ end) → length text < next → length text ≤ end
-    at_end (inl inside) past = absurd (omega (arith, stop'.within (omega arith)))
-    at_end (inr ends) past = ends
-
-    whole : length text < next → Numbers (drop from text) (found ++ (n ∷ []))
-    whole past =
-        let ends : length text ≤ end = at_end (cases_lt end (length text)) past in
-        put [] (subst (λ (l : List ℕ). Numbers l []) (sym (drop_all end text ends)) no_number)
-
-pub all_found : (text : List ℕ) (from at : ℕ) (found : List ℤ) → length text ≤ at → Found text from at found → Numbers (drop from text) found
-all_found text from at found end so =
-    elim (cases_lt (length text) at) [
-      | inl past ↦ so.all past
-      | inr here ↦ subst (λ (l : List ℤ). Numbers (drop from text) l) (append-nil found) (so.more here [] (subst (λ (l : List ℕ). Numbers l []) (sym (drop_all at text end)) no_number))
-    ]
+    longer : (numbers : List ℤ) → Numbers next numbers → Numbers text ((found ++ one) ++ numbers)
+    longer numbers ns =
+        let long : length rest ≡ length word + suc (length next) = ap length cut_at ∙ length-append word (y ∷ next) in
+        let read : get_or rest (length word) 0 ≡ y = ap (λ l. get_or l (length word) 0) cut_at ∙ get_or-append_seam word y next 0 in
+        let ends : is_blank y ≡ true = ap is_blank (sym read) ∙ blank (omega arith) in
+        let here : Numbers rest (one ++ numbers) = subst (λ (l : List ℕ). Numbers l (one ++ numbers)) (sym cut_at) (writes (y ∷ next) numbers ends (skip_blank y next numbers ends ns)) in
+        subst (λ (l : List ℤ). Numbers text l) (sym (append_assoc found one numbers)) (so.more goes (one ++ numbers) here)
 
 -- a piece that is blank writes nothing
 pub blank_piece : (piece : List ℕ) (start : ℕ) → FirstStop piece 0 is_word start → length piece ≤ start → Piece piece []
@@ -101,10 +83,6 @@ one_piece piece start end numbers meant stop there word one ns means =
     let ends : WordEnds (drop (start + 1) piece) = subst (λ (i : ℕ). WordEnds (drop i piece)) one (word_ends piece start end word) in
     let here : Piece (drop start piece) (meant ∷ []) = subst (λ (l : List ℕ). Piece l (meant ∷ [])) (sym (drop_more piece start 0 there)) (command (get_or piece start 0) (drop (start + 1) piece) numbers meant ends rest means) in
     up_to_word (λ (l : List ℕ). Piece l (meant ∷ [])) (λ b l e p. leading_blank b l (meant ∷ []) e p) piece 0 start (omega arith) stop here
-
--- no comment begins at another byte
-pub no_comment : (X : Type 0) (byte at : ℕ) → (byte ≡ 35 → ⊥) → MatchBool (eqb byte 35) X (at ≡ at)
-no_comment X byte at other = subst (λ (b : Bool). MatchBool b X (at ≡ at)) (sym (ne_eqb byte 35 other)) refl
 
 -- The commands of a text, as far as they were read: whatever the rest writes comes after those that are done.
 pub record Going (text : List ℕ) (at : ℕ) (done : List Command) : Type 0 where

@@ -1,11 +1,11 @@
 -- What is read of a stream so far, and written of its text.
 use Rattle.std.proofs.Common.{◌≡◌, ℕ, ◌≤◌, List, [], ◌∷◌, ◌++◌, length, take, sym, refl, ap, ◌∙◌, inl, inr, append_assoc, arith}
+use Rattle.std.proofs.lemmas.List.{append-nil}
 use Rattle.stream.specs.declared.Command.{Command}
 use Rattle.stream.specs.declared.ReadFault.{ReadFault}
 use Rattle.stream.specs.Spelling.{spelled}
 use Rattle.stream.specs.Reading.{Stands}
 use Rattle.stream.specs.Faults.{Faulty}
-use Rattle.stream.proofs.Rows.{nothing_after}
 use Rattle.stream.proofs.Standing.{longer}
 use Rattle.wording.specs.Texts.{text_of}
 use Rattle.notation.specs.Scanning.{Added, Commands}
@@ -30,7 +30,7 @@ pub written_more : (was is : List ℕ) (done commands : List Command) → was �
 written_more was is done commands so more = more ∙ ap (λ l. l ++ spellings commands) so ∙ sym (spellings_++ done commands)
 
 spellings_push : (cs : List Command) (c : Command) → spellings (cs ++ (c ∷ [])) ≡ spellings cs ++ spelled c
-spellings_push cs c = spellings_++ cs (c ∷ []) ∙ ap (λ l. spellings cs ++ l) (nothing_after (spelled c))
+spellings_push cs c = spellings_++ cs (c ∷ []) ∙ ap (λ l. spellings cs ++ l) (append-nil (spelled c))
 
 -- one more command, or none, after commands
 pub added : (was is : List ℕ) → Commands was → Added was is → Commands is
@@ -38,7 +38,7 @@ added was is (cs, e) (inl same) = (cs, same ∙ e)
 added was is (cs, e) (inr (c, letter, numbers, means, more)) = (cs ++ (c ∷ []), more ∙ ap (λ l. l ++ spelled c) e ∙ sym (spellings_push cs c))
 
 texts_push : (cs : List Command) (c : Command) → texts (cs ++ (c ∷ [])) ≡ texts cs ++ text_of c
-texts_push [] c = nothing_after (text_of c)
+texts_push [] c = append-nil (text_of c)
 texts_push (x ∷ cs) c = ap (λ l. text_of x ++ l) (texts_push cs c) ∙ sym (append_assoc (text_of x) (texts cs) (text_of c))
 
 pub one_more : (bytes text more : List ℕ) (at letter next : ℕ) (operands : List ℕ) (c : Command) → Sofar bytes text at → Stands bytes at letter operands next → spelled c ≡ letter ∷ operands → more ≡ text ++ text_of c → Sofar bytes more next

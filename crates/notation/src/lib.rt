@@ -23,9 +23,11 @@ pub fn to_text(heap: Global, stream: &[u8]) -> Result<String, AllocError>
     'items: loop {
         match reader.next() {
             Ok(Some(item)) => {
-                if let Some(command) = decode(&item) {
-                    text.push_str(command_line(heap, &command)?.as_str())?;
-                }
+                // The reader hands on only letters with all their operands.
+                let Some(command) = decode(&item) else {
+                    unreachable()
+                };
+                text.push_str(command_line(heap, &command)?.as_str())?;
             }
             Ok(None) => return Ok(text),
             Err(fault) => {

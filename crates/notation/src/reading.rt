@@ -35,6 +35,7 @@ impl fmt::Display for TextFault {
 impl Error for TextFault {}
 
 /// Why a piece of text gave no command; a piece does not know its line.
+// An own type and no `Option<Wrong>`, so that `?` takes a `Wrong` and a want of memory by From.
 #[derive(Clone, Copy)]
 enum Unread {
     NoMemory,
@@ -65,12 +66,10 @@ fn numbers(heap: Global, piece: &[u8], from: usize) -> Result<Vec<i64>, Unread>
     ensures { IfOk result (λ v. Numbers (drop from piece.now) v.items) }
 {
     let mut found = Vec::new(heap);
-    let mut at = find_from(piece, from, |byte| !is_blank(byte));
-    // Each word says where the next one is sought.
-    'words: while at < piece.len() {
-        let end = find_from(piece, at, is_blank);
-        found.push(number(&piece[at..end])?)?;
-        at = find_from(piece, end + 1, |byte| !is_blank(byte));
+    for word in piece[from..].split(|byte| is_blank(*byte)) {
+        if !word.is_empty() {
+            found.push(number(word)?)?;
+        }
     }
     Ok(found)
 }
@@ -125,10 +124,10 @@ fn after_comment(text: &[u8], at: usize) -> usize
     ensures ends { MatchBool (slice_index text.now at == 35) (FirstStop text.now (at + 1) ends_line result) (result ≡ at) }
     ensures within { (at ≤ result) × (result ≤ length text.now) }
 {
-    if at < text.len() && text[at] == b'#' {
-        return find_from(text, at + 1, |byte| byte == b'\n');
+    match text.get(at) {
+        Some(b'#') => find_from(text, at + 1, |byte| byte == b'\n'),
+        _ => at,
     }
-    at
 }
 
 /// Does a line end at a place?

@@ -9,13 +9,13 @@ use parsing::Wrong;
 pub fn is_blank(byte: u8) -> bool
     ensures { result ≡ is_blank byte }
 {
-    byte == b' ' || byte == b'\t' || byte == b'\r'
+    matches!(byte, b' ' | b'\t' | b'\r')
 }
 
 pub fn ends_command(byte: u8) -> bool
     ensures { result ≡ ends_command byte }
 {
-    byte == b';' || byte == b'\n' || byte == b'#'
+    matches!(byte, b';' | b'\n' | b'#')
 }
 
 /// The first place from `at` on at which the text stops, or its end.
@@ -24,10 +24,10 @@ pub fn find_from<F: Fn(u8) -> bool>(text: &[u8], at: usize, stops: F) -> usize
     ensures within { (at ≤ result) × (at ≤ length text.now → result ≤ length text.now) }
     ensures first { (stops_at : ℕ → Bool) → ((byte : ℕ) (answer : Bool) → F.post stops byte answer → answer ≡ stops_at byte) → FirstStop text.now at stops_at result }
 {
-    if at > text.len() {
+    let Some(rest) = text.get(at..) else {
         return at;
-    }
-    match text[at..].iter().position(|byte| stops(*byte)) {
+    };
+    match rest.iter().position(|byte| stops(*byte)) {
         Some(onward) => at + onward,
         None => text.len(),
     }

@@ -31,10 +31,10 @@ mod tests {
         assert_eq!(rt; bytes.len(), 92);
         let mut reader = Reader::new(bytes.as_slice());
         for offset in OFFSETS {
-            match reader.next() {
-                Ok(Some(item)) => assert!(rt; item.offset == offset),
-                _ => return Err(Fail::new("no item")),
-            }
+            let Ok(Some(item)) = reader.next() else {
+                return Err(Fail::new("no item"));
+            };
+            assert_eq!(rt; item.offset, offset);
         }
         assert!(rt; matches!(reader.next(), Ok(None)));
         // 3000 is 0xbb8, and 3000000 is 0x2dc6c0
@@ -53,9 +53,9 @@ mod tests {
         )?;
         assert_eq!(rt; bytes.len(), 139);
         let text = to_text(rt.alloc(), bytes.as_slice())?;
-        assert!(rt;
-            text.as_str()
-                == "Y 3\nR 7 -1 1000 0 0 0 0 0 0 0 0 0 0 0 0 0 0 0 0 0 0 0 0 0 0\nV 4294967295 -32768 0 0 0 0 0 0 0 0 0 0 0 0 0 0 0 0 0 0 0 0 0 0 0\nT 1 0 2 5 6\nW 0 1 65535\nX 1\nH 2 9\nL 1 -2147483648\n"
+        assert_eq!(rt;
+            text.as_str(),
+            "Y 3\nR 7 -1 1000 0 0 0 0 0 0 0 0 0 0 0 0 0 0 0 0 0 0 0 0 0 0\nV 4294967295 -32768 0 0 0 0 0 0 0 0 0 0 0 0 0 0 0 0 0 0 0 0 0 0 0\nT 1 0 2 5 6\nW 0 1 65535\nX 1\nH 2 9\nL 1 -2147483648\n"
         );
         let again = bytes_of(&rt, text.as_str())?;
         assert_eq!(rt; again.as_slice(), bytes.as_slice());

@@ -14,6 +14,7 @@ use stream::Command;
 pub use wrong::Wrong;
 
 /// The command that a letter and numbers mean.
+// Three groups, those of the format, as in `stream::lengths`. Not one reader with decoding's: here the count is asked before the widths, and a fault says which.
 pub fn command(letter: u8, numbers: &[i64]) -> Result<Command, Wrong>
     ensures { IfOk result (λ command. Means letter numbers.now command) }
 {

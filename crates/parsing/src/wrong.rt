@@ -43,6 +43,6 @@ impl From<TryFromIntError> for Wrong {
     ghost from_gives = { λ _ wrong. wrong ≡ DoesNotFit };
 
     fn from(_error: TryFromIntError) -> Wrong {
-        Wrong::DoesNotFit
+        Self::DoesNotFit
     }
 }

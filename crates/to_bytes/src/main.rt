@@ -8,7 +8,7 @@ use std::io::{Read, Write};
 /// A longer text is refused.
 const MOST_TEXT: usize = 1048576;
 
-fn run(rt: &HostRuntime) -> anyhow::Result<()> {
+fn main(rt: HostRuntime) -> anyhow::Result<()> {
     let mut text = Vec::new(rt.alloc());
     rt.stdin()
         .take(MOST_TEXT as u64 + 1)
@@ -16,15 +16,12 @@ fn run(rt: &HostRuntime) -> anyhow::Result<()> {
     ensure!(text.len() <= MOST_TEXT, "the text is too long");
     match to_bytes(rt.alloc(), text.as_slice()) {
         Ok(bytes) => rt.stdout().write_all(bytes.as_slice())?,
-        Err(TextFault::NoMemory) => bail!("no memory"),
+        Err(fault @ TextFault::NoMemory) => bail!("{fault}"),
+        // The fault has a line of its own, before the error that ends the program.
         Err(fault) => {
             eprintln!(rt; "{fault}")?;
             bail!("no stream");
         }
     }
     Ok(())
-}
-
-fn main(rt: HostRuntime) -> anyhow::Result<()> {
-    run(&rt)
 }

@@ -1,94 +1,103 @@
 //! A command in readable text.
 #![tactic(auto)]
 
-ghost use Rattle.std.specs.Prelude.{◌≡◌, List, ℤ, ◌∷◌, ◌++◌, pos, IfOk, OnOk, string_bytes};
-ghost use Rattle.wording.specs.Texts.{after_blanks, text_of};
+ghost use Rattle.std.specs.Prelude.{◌≡◌, ◌<◌, ◌∷◌, pos, Some, flat_map, IfOk, string_bytes};
+ghost use Rattle.wording.specs.Texts.{after_blank, after_blanks, text_of};
 
 use auction::bounds::MOST_ZONES;
 use std::alloc::{AllocError, Global};
+use std::fmt;
 use stream::Command;
 
-// A function and no `impl Display`, since a `write!` in a loop inside `fmt` leaves a goal open.
-/// Numbers with a blank before each, whatever other numbers may follow on the line.
-fn add_numbers(text: &mut String, numbers: &[i64]) -> Result<(), AllocError>
-    ensures { OnOk result ((more : List ℤ) → string_bytes text.new ++ after_blanks more ≡ string_bytes text.old ++ after_blanks (numbers.now ++ more)) }
-{
-    for number in numbers {
-        write!(text, " {number}")?;
+/// Numbers with a blank before each.
+#[derive(Clone, Copy)]
+struct Numbers<'a>(&'a [i64]);
+
+impl fmt::Display for Numbers<'_> {
+    ghost output = { λ numbers. Some (flat_map after_blank numbers.0.now) };
+
+    fn fmt<W: fmt::Write>(&self, f: &mut fmt::Formatter<W>) -> fmt::Result {
+        for number in self.0 {
+            write!(f, " {number}")?;
+        }
+        Ok(())
     }
-    Ok(())
 }
 
 /// A letter and its numbers on a line of their own.
-fn text_line(heap: Global, letter: &str, numbers: &[i64]) -> Result<String, AllocError>
-    ensures { IfOk result (λ s. string_bytes s ≡ letter.now ++ after_blanks numbers.now) }
+#[tactic(auto, using(crate::proofs::Blanks::ended, std::proofs::lemmas::Str::encode_ascii))]
+fn text_line(heap: Global, letter: u8, numbers: &[i64]) -> Result<String, AllocError>
+    requires { letter < 128 }
+    ensures { IfOk result (λ s. string_bytes s ≡ letter ∷ after_blanks numbers.now) }
 {
-    let mut text = String::from_str(heap, letter)?;
-    add_numbers(&mut text, numbers)?;
-    text.push_str("\n")?;
-    Ok(text)
+    let letter = char::from(letter);
+    let numbers = Numbers(numbers);
+    format!(in heap; "{letter}{numbers}\n")
 }
 
 /// A letter, a limit and a row of sensitivities on a line of their own.
+#[tactic(auto, using(crate::proofs::Blanks::ended, std::proofs::lemmas::Str::encode_ascii))]
 fn row_line(
     heap: Global,
-    letter: &str,
+    letter: u8,
     limit: u32,
     row: &[i16; MOST_ZONES],
 ) -> Result<String, AllocError>
-    ensures { IfOk result (λ s. string_bytes s ≡ letter.now ++ after_blanks (pos limit ∷ row.now)) }
+    requires { letter < 128 }
+    ensures { IfOk result (λ s. string_bytes s ≡ letter ∷ after_blanks (pos limit ∷ row.now)) }
 {
-    let mut text = String::from_str(heap, letter)?;
-    add_numbers(&mut text, &[limit.into()])?;
-    add_numbers(&mut text, &row.map(|sensitivity| i64::from(sensitivity)))?;
-    text.push_str("\n")?;
-    Ok(text)
+    let letter = char::from(letter);
+    let row = row.map(|sensitivity| i64::from(sensitivity));
+    let row = Numbers(&row);
+    format!(in heap; "{letter} {limit}{row}\n")
 }
 
 /// A command on a line of its own.
+// Not one table with encoding's `encode`: there each operand has a width in bytes, here each is a decimal number.
 pub fn command_line(heap: Global, command: &Command) -> Result<String, AllocError>
     ensures { IfOk result (λ s. string_bytes s ≡ text_of command.now) }
 {
+    let letter = command.letter();
     match *command {
-        Command::Tree { zones } => text_line(heap, "Z", &[zones.into()]),
-        Command::Table { zones } => text_line(heap, "Y", &[zones.into()]),
+        Command::Open => text_line(heap, letter, &[]),
+        Command::Tree { zones: number }
+        | Command::Table { zones: number }
+        | Command::Close { house: number }
+        | Command::Try { house: number }
+        | Command::Settle { house: number }
+        | Command::Void { house: number } => text_line(heap, letter, &[number.into()]),
         Command::Link {
             parent,
             to_parent,
             to_child,
         } => text_line(
             heap,
-            "K",
+            letter,
             &[parent.into(), to_parent.into(), to_child.into()],
         ),
         Command::Row {
             limit,
             sensitivities,
-        } => row_line(heap, "R", limit, &sensitivities),
-        Command::Monitor {
+        }
+        | Command::Monitor {
             limit,
             sensitivities,
-        } => row_line(heap, "V", limit, &sensitivities),
-        Command::HoldBack { line, kwh } => text_line(heap, "H", &[line.into(), kwh.into()]),
-        Command::Open => text_line(heap, "G", &[]),
+        } => row_line(heap, letter, limit, &sensitivities),
+        Command::HoldBack { line, kwh } => text_line(heap, letter, &[line.into(), kwh.into()]),
         Command::Offer {
             house,
             zone,
             price,
             quantity,
-        } => text_line(
-            heap,
-            "O",
-            &[house.into(), zone.into(), price.into(), quantity.into()],
-        ),
-        Command::Bid {
+        }
+        | Command::Bid {
             house,
             zone,
             price,
             quantity,
         } => text_line(
             heap,
-            "B",
+            letter,
             &[house.into(), zone.into(), price.into(), quantity.into()],
         ),
         Command::Transfer {
@@ -99,7 +108,7 @@ pub fn command_line(heap: Global, command: &Command) -> Result<String, AllocErro
             quantity,
         } => text_line(
             heap,
-            "T",
+            letter,
             &[
                 house.into(),
                 first.into(),
@@ -112,11 +121,7 @@ pub fn command_line(heap: Global, command: &Command) -> Result<String, AllocErro
             house,
             list,
             number,
-        } => text_line(heap, "W", &[house.into(), list.into(), number.into()]),
-        Command::Close { house } => text_line(heap, "C", &[house.into()]),
-        Command::Try { house } => text_line(heap, "Q", &[house.into()]),
-        Command::Settle { house } => text_line(heap, "S", &[house.into()]),
-        Command::Void { house } => text_line(heap, "X", &[house.into()]),
+        } => text_line(heap, letter, &[house.into(), list.into(), number.into()]),
         Command::Quantity {
             house,
             list,
@@ -124,13 +129,17 @@ pub fn command_line(heap: Global, command: &Command) -> Result<String, AllocErro
             quantity,
         } => text_line(
             heap,
-            "A",
+            letter,
             &[house.into(), list.into(), number.into(), quantity.into()],
         ),
-        Command::Lambda { house, lambda } => text_line(heap, "L", &[house.into(), lambda.into()]),
+        Command::Lambda { house, lambda } => text_line(
+            heap,
+            letter,
+            &[house.into(), lambda.into()],
+        ),
         Command::ShadowPrice { house, line, price } => text_line(
             heap,
-            "M",
+            letter,
             &[house.into(), line.into(), price.into()],
         ),
     }

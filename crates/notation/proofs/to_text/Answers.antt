@@ -5,8 +5,8 @@ use Rattle.wording.specs.Texts.{text_of}
 use Rattle.notation.proofs.Sofar.{Sofar, one_more}
 use Rattle.notation.proofs.to_text.Goals as goal
 
-pub items-preserved-in-Some : goal.items-preserved-in-Some
-items-preserved-in-Some c =
+pub items-preserved : goal.items-preserved
+items-preserved c =
     let bytes : List ℕ = c.items.reader.bytes.now in
     let text : List ℕ = string_bytes c.items.text in
     let more : List ℕ = string_bytes c.push_str.new.self in

@@ -1,9 +1,7 @@
-use Rattle.std.proofs.Common.{◌-◌, length, vec_items}
+use Rattle.std.proofs.Common.{drop, vec_items}
+use Rattle.std.specs.Slice.Iter.{split_rest, split_done}
 use Rattle.notation.proofs.Pieces.{Found}
 use Rattle.notation.proofs.reading.numbers.Given as goal
 
-abbrev pub invariant-words : goal.invariant-words
-invariant-words l = Found l.piece l.from l.at (vec_items l.found)
-
-abbrev pub decreases-words : goal.decreases-words
-decreases-words l = length l.piece - l.at
+abbrev pub invariant-loop-word : goal.invariant-loop-word
+invariant-loop-word l = Found (drop l.from l.piece) (split_rest l.word-iterator) (split_done l.word-iterator) (vec_items l.found)
