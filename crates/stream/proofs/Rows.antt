@@ -7,10 +7,6 @@ pub sensitivities_++ : (xs ys : List ℤ) → sensitivities (xs ++ ys) ≡ sensi
 sensitivities_++ [] ys = refl
 sensitivities_++ (x ∷ xs) ys = ap (λ l. signed16 x ++ l) (sensitivities_++ xs ys) ∙ sym (append_assoc (signed16 x) (sensitivities xs) (sensitivities ys))
 
--- std's lemma, under the name by which notation's proof cites it
-pub nothing_after : (xs : List ℕ) → xs ++ [] ≡ xs
-nothing_after = append-nil
-
 -- one more sensitivity is two more bytes
 one_more : (zs : List ℤ) (z : ℤ) → sensitivities (zs ++ z ∷ []) ≡ sensitivities zs ++ signed16 z
 one_more zs z = sensitivities_++ zs (z ∷ []) ∙ ap (λ l. sensitivities zs ++ l) (append-nil (signed16 z))
