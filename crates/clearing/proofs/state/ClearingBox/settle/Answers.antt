@@ -17,7 +17,7 @@ returns g c =
     let rent-fits : SFits w64 v.rent = search rules in (
       c.clear.ensures.kept.0,
       settled_so g.X.OrderList g.Y.OrderList g.W.OrderList (g.N.Network.grid b.network) c.args.house b.book b.sheets (page b.ledger) (page c.judged.new.ledger) v c.of-sheet.result.now c.accepted.result
-          v.amounts.zero v.amounts.one (to_z w64 (of_z w64 v.rent)) b'.book b'.sheets (page b'.ledger)
-          c.accepted.ensures refl refl (to_z-of_z w64 v.rent rent-fits) c.requires (c.of-sheet.ensures, c.in_ok-verdict.ensures)
+          (to_z w64 (of_z w64 v.rent)) b'.book b'.sheets (page b'.ledger)
+          c.accepted.ensures (to_z-of_z w64 v.rent rent-fits) c.requires (c.of-sheet.ensures, c.in_ok-verdict.ensures)
           (ap page c.clear.ensures.kept.1 ∙ c.settle.ensures) c.clear.ensures.orders c.clear.ensures.sheets,
     )
