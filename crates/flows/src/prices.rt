@@ -71,7 +71,7 @@ fn price_of<N: Network>(network: &N, sheet: &Sheet, zone: usize) -> i64
 fn in_range(price: i64) -> bool
     ensures { Decides result (ZonePriceInRange price) }
 {
-    price.unsigned_abs() <= MOST_ZONE_PRICE as u64
+    price.unsigned_abs() <= i64::from(MOST_ZONE_PRICE).unsigned_abs()
 }
 
 /// The prices of all zones, 0 for those that the network lacks; or the first zone whose price is out of range.
@@ -79,13 +79,14 @@ pub fn zone_prices<N: Network>(network: &N, sheet: &Sheet) -> Result<[i32; MOST_
     ensures { Priced (N.Network.grid network.now) (prices_of sheet.now) result }
 {
     let mut prices = [0i32; MOST_ZONES];
-    // By index: the places beyond the network's zones stay 0.
-    for zone in 0..network.zones() {
+    for (zone, place) in prices.iter_mut().enumerate() {
         let price = price_of(network, sheet, zone);
         if !in_range(price) {
+            // Nothing is lost: there are 24 places.
             return Err(Broken::ZonePrice { zone: zone as u8 });
         }
-        prices[zone] = price as i32;
+        // Nothing is lost: a price in range fits.
+        *place = price as i32;
     }
     Ok(prices)
 }
