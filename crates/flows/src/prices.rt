@@ -9,35 +9,20 @@ ghost use Rattle.auction.specs.Hours.{exact_rent, zone_price};
 ghost use Rattle.sheets.specs.Proposals.{prices_of};
 ghost use Rattle.flows.specs.Flows.{Priced, discount};
 
-use crate::numbers::{sum_of, times};
+use crate::numbers::sum_of;
 use auction::Broken;
 use auction::bounds::{MOST_ZONE_PRICE, MOST_ZONES};
 use network::Network;
 use sheets::Sheet;
 
-/// The shadow price of a line as a signed number.
-fn shadow_price_of(sheet: &Sheet, line: usize) -> i32
-    ensures { result ≡ pos ((prices_of sheet.now).shadow line) }
-{
-    sheet.shadow_price(line) as i32
-}
-
-/// The limit of a line as a signed number.
-fn limit_of<N: Network>(network: &N, line: usize) -> i32
-    ensures { result ≡ pos (limit_at (N.Network.grid network.now) line) }
-{
-    network.limit(line) as i32
-}
+// A network and a sheet are two references that no fact ties: a struct of both would only add a name to each clause.
 
 /// What a line takes off the price of a zone.
 fn discount_at<N: Network>(network: &N, sheet: &Sheet, zone: usize, line: usize) -> i64
     ensures value { result ≡ discount (N.Network.grid network.now) (prices_of sheet.now) zone line }
     ensures bound { unsigned_abs result ≤ 1000000000 }
 {
-    times(
-        shadow_price_of(sheet, line),
-        i32::from(network.sensitivity(line, zone)),
-    )
+    i64::from(sheet.shadow_price(line)) * i64::from(network.sensitivity(line, zone))
 }
 
 /// What all lines take off the price of a zone.
@@ -96,7 +81,7 @@ fn line_rent_of<N: Network>(network: &N, sheet: &Sheet, line: usize) -> i64
     ensures value { result ≡ line_rent (limit_at (N.Network.grid network.now) line) ((prices_of sheet.now).shadow line) }
     ensures bound { unsigned_abs result ≤ 10000000000000000 }
 {
-    1000 * times(shadow_price_of(sheet, line), limit_of(network, line))
+    1000 * (i64::from(sheet.shadow_price(line)) * i64::from(network.limit(line)))
 }
 
 /// The congestion rent of all lines.
