@@ -12,7 +12,7 @@ ghost use Rattle.clearing.specs.Views.{Handles, situation};
 
 use crate::judging::{accepted, judged};
 use crate::state::ClearingBox;
-use auction::{House, PerHouse, Refusal};
+use auction::{House, Refusal};
 use filling::{blank, fill};
 use history::{Filling, Reply};
 use network::Network;
@@ -82,11 +82,7 @@ impl<N: Network, X: OrderList, Y: OrderList, W: OrderList> ClearingBox<N, X, Y, 
     {
         let sheet = self.sheets.of(house);
         let verdict = judged(&mut self.ledger, &self.network, &self.book, sheet)?;
-        let amounts = PerHouse {
-            zero: verdict.zero,
-            one: verdict.one,
-        };
-        self.ledger.settle(amounts, verdict.rent);
+        self.ledger.settle(verdict.amounts, verdict.rent);
         self.clear();
         Ok(accepted(&verdict))
     }

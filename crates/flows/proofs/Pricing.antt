@@ -48,6 +48,11 @@ module _ (g : Grid) (p : Prices) where
       beyond : (z i : ℕ) → i + 1 ≤ z → z ≡ i → ⊥
       beyond z i l e = omega arith
 
-  pub priced_all : (i : ℕ) (prices : List ℤ) → PricedBefore g p i prices → i ≡ g.zones → Priced g p (Ok prices)
+  -- beyond the zones the prices are 0
+  pub priced_all : (i : ℕ) (prices : List ℤ) → PricedBefore g p i prices → g.zones ≤ i → Priced g p (Ok prices)
   priced_all i prices so_far all =
-      ((λ z l. so_far.in_range z (omega arith)), λ z. ⊎_elim (λ l. so_far.inside z (omega arith)) (λ l. so_far.outside z (omega arith) ∙ sym (price_outside g p z l)) (cases_lt z g.zones))
+      ((λ z l. so_far.in_range z (omega arith)), λ z. ⊎_elim (so_far.inside z) (λ l. so_far.outside z l ∙ sym (price_outside g p z (omega arith))) (cases_lt z i))
+
+  -- so that only a zone of the network can have one that is out of range
+  pub fails_inside : (z : ℕ) → (ZonePriceInRange (zone_price g p z) → ⊥) → z < g.zones
+  fails_inside z fails = ⊎_elim (λ l. l) (λ l. absurd (fails (subst ZonePriceInRange (sym (price_outside g p z l)) (omega arith)))) (cases_lt z g.zones)

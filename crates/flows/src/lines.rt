@@ -8,11 +8,13 @@ ghost use Rattle.sheets.specs.Proposals.{prices_of};
 ghost use Rattle.flows.specs.Firsts.{Each};
 ghost use Rattle.flows.specs.Flows.{array_flow, array_total};
 
-use crate::numbers::{sum_of, times};
+use crate::numbers::sum_of;
 use auction::Broken;
 use auction::bounds::MOST_ZONES;
 use network::Network;
 use sheets::Sheet;
+
+// A network and net injections are two references that no fact ties: a struct of both would only add a name to each clause.
 
 /// What all zones together feed in.
 fn injected(nets: &[i32; MOST_ZONES]) -> i64
@@ -33,7 +35,7 @@ fn share<N: Network>(network: &N, line: usize, zone: usize, net: i32) -> i64
     ensures value { result ≡ sensitivity_at (N.Network.grid network.now) line zone *ℤ net }
     ensures bound { unsigned_abs result ≤ 1000 * 2 ^ 31 }
 {
-    times(i32::from(network.sensitivity(line, zone)), net)
+    i64::from(network.sensitivity(line, zone)) * i64::from(net)
 }
 
 /// The flow over a line, in thousandths of a kWh.
@@ -65,6 +67,7 @@ pub fn lines_within_limits<N: Network>(network: &N, nets: &[i32; MOST_ZONES]) ->
     // A loop returns the refusal at once; `find` would leave the line to be matched again.
     for line in 0..network.lines() {
         if !within_limit(network, line, nets) {
+            // Nothing is lost: a network has at most 60 lines.
             return Err(Broken::Flow { line: line as u8 });
         }
     }
@@ -92,6 +95,7 @@ pub fn lines_bind<N: Network>(
     // A loop returns the refusal at once; `find` would leave the line to be matched again.
     for line in 0..network.lines() {
         if !binds(network, line, nets, sheet) {
+            // Nothing is lost: a network has at most 60 lines.
             return Err(Broken::Binding { line: line as u8 });
         }
     }

@@ -1,4 +1,4 @@
-//! Sums and products of whole numbers that stay small.
+//! Sums of whole numbers that stay small.
 
 ghost use Rattle.std.specs.Prelude.{◌≡◌, ℕ, ℤ, ◌^◌, ◌<◌, ◌≤◌, ◌*ℤ◌, unsigned_abs};
 ghost use Rattle.auction.specs.Sums.{Σ, Σℕ};
@@ -12,15 +12,9 @@ pub(crate) fn sum_of<F: Fn(usize) -> i64>(count: usize, term: F) -> i64
     ensures bound { (size : ℕ → ℕ) → Within (F.post term) count size → unsigned_abs result ≤ Σℕ count size }
 {
     let mut total: i64 = 0;
+    // A loop: the library's sum asks that the total fits, which only the bounds of the terms say.
     for i in 0..count {
         total += term(i);
     }
     total
-}
-
-/// A product of two numbers of 32 bits, which 64 bits always hold.
-pub(crate) fn times(a: i32, b: i32) -> i64
-    ensures { result ≡ a *ℤ b }
-{
-    i64::from(a) * i64::from(b)
 }

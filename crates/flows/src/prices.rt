@@ -9,35 +9,20 @@ ghost use Rattle.auction.specs.Hours.{exact_rent, zone_price};
 ghost use Rattle.sheets.specs.Proposals.{prices_of};
 ghost use Rattle.flows.specs.Flows.{Priced, discount};
 
-use crate::numbers::{sum_of, times};
+use crate::numbers::sum_of;
 use auction::Broken;
 use auction::bounds::{MOST_ZONE_PRICE, MOST_ZONES};
 use network::Network;
 use sheets::Sheet;
 
-/// The shadow price of a line as a signed number.
-fn shadow_price_of(sheet: &Sheet, line: usize) -> i32
-    ensures { result ≡ pos ((prices_of sheet.now).shadow line) }
-{
-    sheet.shadow_price(line) as i32
-}
-
-/// The limit of a line as a signed number.
-fn limit_of<N: Network>(network: &N, line: usize) -> i32
-    ensures { result ≡ pos (limit_at (N.Network.grid network.now) line) }
-{
-    network.limit(line) as i32
-}
+// A network and a sheet are two references that no fact ties: a struct of both would only add a name to each clause.
 
 /// What a line takes off the price of a zone.
 fn discount_at<N: Network>(network: &N, sheet: &Sheet, zone: usize, line: usize) -> i64
     ensures value { result ≡ discount (N.Network.grid network.now) (prices_of sheet.now) zone line }
     ensures bound { unsigned_abs result ≤ 1000000000 }
 {
-    times(
-        shadow_price_of(sheet, line),
-        i32::from(network.sensitivity(line, zone)),
-    )
+    i64::from(sheet.shadow_price(line)) * i64::from(network.sensitivity(line, zone))
 }
 
 /// What all lines take off the price of a zone.
@@ -71,7 +56,7 @@ fn price_of<N: Network>(network: &N, sheet: &Sheet, zone: usize) -> i64
 fn in_range(price: i64) -> bool
     ensures { Decides result (ZonePriceInRange price) }
 {
-    price.unsigned_abs() <= MOST_ZONE_PRICE as u64
+    price.unsigned_abs() <= i64::from(MOST_ZONE_PRICE).unsigned_abs()
 }
 
 /// The prices of all zones, 0 for those that the network lacks; or the first zone whose price is out of range.
@@ -79,13 +64,14 @@ pub fn zone_prices<N: Network>(network: &N, sheet: &Sheet) -> Result<[i32; MOST_
     ensures { Priced (N.Network.grid network.now) (prices_of sheet.now) result }
 {
     let mut prices = [0i32; MOST_ZONES];
-    // By index: the places beyond the network's zones stay 0.
-    for zone in 0..network.zones() {
+    for (zone, place) in prices.iter_mut().enumerate() {
         let price = price_of(network, sheet, zone);
         if !in_range(price) {
+            // Nothing is lost: there are 24 places.
             return Err(Broken::ZonePrice { zone: zone as u8 });
         }
-        prices[zone] = price as i32;
+        // Nothing is lost: a price in range fits.
+        *place = price as i32;
     }
     Ok(prices)
 }
@@ -95,7 +81,7 @@ fn line_rent_of<N: Network>(network: &N, sheet: &Sheet, line: usize) -> i64
     ensures value { result ≡ line_rent (limit_at (N.Network.grid network.now) line) ((prices_of sheet.now).shadow line) }
     ensures bound { unsigned_abs result ≤ 10000000000000000 }
 {
-    1000 * times(shadow_price_of(sheet, line), limit_of(network, line))
+    1000 * (i64::from(sheet.shadow_price(line)) * i64::from(network.limit(line)))
 }
 
 /// The congestion rent of all lines.

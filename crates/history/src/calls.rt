@@ -4,7 +4,7 @@ ghost use Rattle.std.specs.Prelude.{◌≡◌};
 ghost use Rattle.history.specs.Events.{caller_number};
 
 /// What a house hands in to enter an order, by the list that the order goes to.
-#[derive(Clone, Copy)]
+#[derive(Clone, Copy, PartialEq, Eq, Debug)]
 pub enum Wish<P, Q, R> {
     First(P),
     Second(Q),
@@ -12,7 +12,7 @@ pub enum Wish<P, Q, R> {
 }
 
 /// One number of a sheet, set anew.
-#[derive(Clone, Copy)]
+#[derive(Clone, Copy, PartialEq, Eq, Debug)]
 pub enum Filling {
     /// The quantity of an order, in kWh.
     Quantity { list: u8, number: u16, kwh: u32 },
@@ -23,7 +23,8 @@ pub enum Filling {
 }
 
 /// A call, with the number of the house that makes it.
-#[derive(Clone, Copy)]
+// The parts stand flat in each call, list and number too, as a caller in C hands them in one by one.
+#[derive(Clone, Copy, PartialEq, Eq, Debug)]
 pub enum Call<P, Q, R> {
     /// Enters an order.
     Enter { house: u8, wish: Wish<P, Q, R> },
@@ -59,7 +60,8 @@ impl<P, Q, R> Call<P, Q, R> {
 }
 
 /// The answer to a call that is not refused.
-#[derive(Clone, Copy)]
+// No Option: a call that is done lacks nothing.
+#[derive(Clone, Copy, PartialEq, Eq, Debug)]
 pub enum Reply {
     Done,
     /// A sheet that breaks no rule: its welfare, in thousandths of a cent, and its rent, in millionths.

@@ -38,6 +38,9 @@ entry_worth e q = e.order.worth q
 abbrev pub entry_injection : ℕ → Entry → ℕ → ℤ
 entry_injection z e q = e.order.injection q z
 
+abbrev pub entry_proceeds : ZonePrices → Entry → ℕ → ℤ
+entry_proceeds prices e q = proceeds prices e.order q
+
 -- what an order of a house pays at given zone prices
 abbrev pub own_charge : ZonePrices → ℕ → Entry → ℕ → ℤ
 own_charge prices house e q = cond (e.house == house) (neg_ℤ (proceeds prices e.order q)) (pos 0)

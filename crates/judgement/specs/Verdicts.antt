@@ -29,10 +29,10 @@ Ruled g b d p (Err broken) = FirstBroken g b d p broken
 pub record Accounts (g : Grid) (b : Book) (d : Dispatch) (p : Prices) (prices : ZonePrices) (v : Verdict) : Type 0 where
   pub welfare : v.welfare ≡ welfare_of b d
   pub rent : v.rent ≡ exact_rent g p
-  pub zero : v.zero ≡ over_orders b d (own_charge prices 0)
-  pub one : v.one ≡ over_orders b d (own_charge prices 1)
+  pub zero : v.amounts.zero ≡ over_orders b d (own_charge prices 0)
+  pub one : v.amounts.one ≡ over_orders b d (own_charge prices 1)
 
 -- The verdict on a sheet: accepted with its welfare, its rent and what the two houses pay, or the first rule that it breaks, at its first place.
 abbrev pub Judged : Grid → Book → Dispatch → Prices → Result Verdict Broken → Type 0
-Judged g b d p (Ok v) = Accepted g b d p × (v.welfare ≡ welfare_of b d) × (v.rent ≡ rent_of g b d p) × (v.zero ≡ amount_of g b d p 0) × (v.one ≡ amount_of g b d p 1)
+Judged g b d p (Ok v) = Accepted g b d p × (v.welfare ≡ welfare_of b d) × (v.rent ≡ rent_of g b d p) × (v.amounts.zero ≡ amount_of g b d p 0) × (v.amounts.one ≡ amount_of g b d p 1)
 Judged g b d p (Err broken) = FirstBroken g b d p broken

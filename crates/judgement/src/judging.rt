@@ -10,7 +10,7 @@ use crate::measures::{Charge, Injection, Worth};
 use crate::sums::sum_of;
 use crate::verdict::Verdict;
 use auction::bounds::MOST_ZONES;
-use auction::{Broken, House};
+use auction::{Broken, House, PerHouse};
 use flows::{in_balance, lines_bind, lines_within_limits, rent_of, zone_prices};
 use network::Network;
 use orders::{Book, OrderList};
@@ -44,6 +44,7 @@ fn rules<N: Network, X: OrderList, Y: OrderList, W: OrderList>(
 {
     quantities_possible(book, sheet)?;
     let nets = net_injections(network, book, sheet);
+    // A test, since this rule names no place.
     if !in_balance(&nets) {
         return Err(Broken::Balance);
     }
@@ -67,22 +68,24 @@ fn accounts<N: Network, X: OrderList, Y: OrderList, W: OrderList>(
     Verdict {
         welfare: sum_of(book, sheet, &Worth),
         rent: rent_of(network, sheet),
-        zero: sum_of(
-            book,
-            sheet,
-            &Charge {
-                prices,
-                house: House::Zero,
-            },
-        ),
-        one: sum_of(
-            book,
-            sheet,
-            &Charge {
-                prices,
-                house: House::One,
-            },
-        ),
+        amounts: PerHouse {
+            zero: sum_of(
+                book,
+                sheet,
+                &Charge {
+                    prices,
+                    house: House::Zero,
+                },
+            ),
+            one: sum_of(
+                book,
+                sheet,
+                &Charge {
+                    prices,
+                    house: House::One,
+                },
+            ),
+        },
     }
 }
 

@@ -1,10 +1,11 @@
 //! What an accepted sheet amounts to.
 
-/// Welfare in thousandths of a cent; the rent, and what house 0 and house 1 pay, in millionths.
-#[derive(Clone, Copy)]
+use auction::PerHouse;
+
+/// Welfare in thousandths of a cent; the rent, and what each house pays, in millionths.
+#[derive(Clone, Copy, PartialEq, Eq, Debug)]
 pub struct Verdict {
     pub welfare: i64,
     pub rent: i64,
-    pub zero: i64,
-    pub one: i64,
+    pub amounts: PerHouse<i64>,
 }

@@ -3,11 +3,11 @@
 ghost use Rattle.std.specs.Prelude.{length};
 ghost use Rattle.auction.specs.declared.Broken.TheVariants.{Quantity, Contentment};
 ghost use Rattle.auction.specs.Hours.{Takes};
-ghost use Rattle.flows.specs.Firsts.{FirstFailing};
+ghost use Rattle.flows.specs.Firsts.{Each};
 ghost use Rattle.orders.specs.Books.{booked};
 ghost use Rattle.orders.specs.Reads.{array_prices, entry};
 ghost use Rattle.sheets.specs.Proposals.{dispatch_of};
-ghost use Rattle.places.specs.Places.{AtEase, EachOrder, FirstOrder, OfOrder};
+ghost use Rattle.places.specs.Places.{AtEase, EachOrder, OfOrder};
 
 use crate::rules::{Content, Possible, Rule};
 use auction::Broken;
@@ -15,31 +15,38 @@ use auction::bounds::MOST_ZONES;
 use orders::{Book, OrderList};
 use sheets::Sheet;
 
-/// The first order of one list that does not meet the rule at its quantity on the sheet.
-fn first_in<L: OrderList, R: Rule>(list: &L, index: usize, sheet: &Sheet, rule: &R) -> Option<usize>
-    ensures { FirstFailing (λ n. R.Rule.asks rule.now (entry (L.OrderList.entries list.now) n) (dispatch_of sheet.now index n)) (length (L.OrderList.entries list.now)) result }
+/// Each order of one list meets the rule at its quantity on the sheet; or the first that does not.
+fn first_in<L: OrderList, R: Rule>(
+    list: &L,
+    index: u8,
+    sheet: &Sheet,
+    rule: &R,
+) -> Result<(), Broken>
+    ensures { Each (R.Rule.named rule.now index) (λ n. R.Rule.asks rule.now (entry (L.OrderList.entries list.now) n) (dispatch_of sheet.now index n)) (length (L.OrderList.entries list.now)) result }
 {
-    (0..list.count()).find(|number| !rule.met(list, *number, sheet.quantity(index, *number)))
+    let failing = (0..list.count()).find(|number| !rule.met(
+        list,
+        *number,
+        sheet.quantity(usize::from(index), *number),
+    ));
+    match failing {
+        // Nothing is lost: a list has at most 1000 orders.
+        Some(number) => Err(rule.broken(index, number as u16)),
+        None => Ok(()),
+    }
 }
 
-/// The first order of all three lists that does not meet the rule, by list and number.
+/// Each order of all three lists meets the rule; or the first that does not.
 fn first_of<X: OrderList, Y: OrderList, W: OrderList, R: Rule>(
     book: &Book<X, Y, W>,
     sheet: &Sheet,
     rule: &R,
-) -> Option<(u8, u16)>
-    ensures { FirstOrder (OfOrder (booked X.OrderList Y.OrderList W.OrderList book.now) (dispatch_of sheet.now) (R.Rule.asks rule.now)) result }
+) -> Result<(), Broken>
+    ensures { EachOrder (R.Rule.named rule.now) (OfOrder (booked X.OrderList Y.OrderList W.OrderList book.now) (dispatch_of sheet.now) (R.Rule.asks rule.now)) result }
 {
-    if let Some(number) = first_in(&book.first, 0, sheet, rule) {
-        return Some((0, number as u16));
-    }
-    if let Some(number) = first_in(&book.second, 1, sheet, rule) {
-        return Some((1, number as u16));
-    }
-    if let Some(number) = first_in(&book.third, 2, sheet, rule) {
-        return Some((2, number as u16));
-    }
-    None
+    first_in(&book.first, 0, sheet, rule)?;
+    first_in(&book.second, 1, sheet, rule)?;
+    first_in(&book.third, 2, sheet, rule)
 }
 
 /// Each order takes what it may; or the first that does not.
@@ -49,10 +56,7 @@ pub fn quantities_possible<X: OrderList, Y: OrderList, W: OrderList>(
 ) -> Result<(), Broken>
     ensures { EachOrder Quantity (OfOrder (booked X.OrderList Y.OrderList W.OrderList book.now) (dispatch_of sheet.now) Takes) result }
 {
-    match first_of(book, sheet, &Possible) {
-        Some((list, number)) => Err(Broken::Quantity { list, number }),
-        None => Ok(()),
-    }
+    first_of(book, sheet, &Possible)
 }
 
 /// Each standing order is content at these zone prices; or the first that is not.
@@ -63,8 +67,5 @@ pub fn orders_content<X: OrderList, Y: OrderList, W: OrderList>(
 ) -> Result<(), Broken>
     ensures { EachOrder Contentment (OfOrder (booked X.OrderList Y.OrderList W.OrderList book.now) (dispatch_of sheet.now) (AtEase (array_prices prices.now))) result }
 {
-    match first_of(book, sheet, &Content { prices }) {
-        Some((list, number)) => Err(Broken::Contentment { list, number }),
-        None => Ok(()),
-    }
+    first_of(book, sheet, &Content { prices })
 }

@@ -1,7 +1,14 @@
 -- What a sheet proposes: a dispatch and prices.
-use Rattle.std.specs.Prelude.{ℕ, cond, ◌&&◌, [], ◌==◌, slice_index, slice_index_or}
+use Rattle.std.specs.Prelude.{ℕ, zero, suc, cond, ◌&&◌, List, [], ◌==◌, slice_index, slice_index_or}
 use Rattle.auction.specs.Hours.{Dispatch, Prices}
 use Rattle.sheets.specs.declared.sheet.Sheet.{Sheet}
+
+-- of the quantities of three lists those of one
+abbrev pub picked : List ℕ → List ℕ → List ℕ → ℕ → List ℕ
+picked first second third zero = first
+picked first second third (suc zero) = second
+picked first second third (suc (suc zero)) = third
+picked first second third (suc (suc (suc _))) = []
 
 -- the quantity of each order by list and number, 0 where nothing was filled in
 abbrev pub dispatch_of : Sheet → Dispatch

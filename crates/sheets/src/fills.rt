@@ -44,7 +44,7 @@ impl Sheet {
             (λ _. ((l n : ℕ) → dispatch_of self.new l n ≡ dispatch_of self.old l n) × (prices_of self.new ≡ record { lambda = lambda; shadow = (prices_of self.old).shadow }))
             (self.new ≡ self.old) }
     {
-        if lambda.unsigned_abs() > MOST_LAMBDA as u32 {
+        if lambda.unsigned_abs() > MOST_LAMBDA.unsigned_abs() {
             return Err(Fault::OutOfRange);
         }
         self.lambda = lambda;

@@ -94,15 +94,15 @@ module _ {X Y W P Q R : Type 0} (x : ListMeaning X P) (y : ListMeaning Y Q) (w :
   not_settled refusal sheet (Err r) lifted judges = subst (λ q. Settles (Err q)) (sym lifted) (settle_refused refusal (own_sheet sheet (Err refusal) judges))
 
   -- an accepted settle: the amounts and the rent of the verdict are posted
-  settled_by : (v : Found.Verdict) (b' : Book X Y W) (s' : Sheets) (p'' : Page) → p.closed ≡ true → Spent g now_booked (dispatches s house) (prices_by s house) p (Ok v) p' → p'' ≡ settled_page p' v.zero v.one v.rent → booked x y w b' ≡ book_of [] [] [] → Blank s'
+  settled_by : (v : Found.Verdict) (b' : Book X Y W) (s' : Sheets) (p'' : Page) → p.closed ≡ true → Spent g now_booked (dispatches s house) (prices_by s house) p (Ok v) p' → p'' ≡ settled_page p' v.amounts.zero v.amounts.one v.rent → booked x y w b' ≡ book_of [] [] [] → Blank s'
       → Handled (kinds_of x y w) g house (Settle (house_number house)) (situation_of now_booked s p) (Ok (Accepted v.welfare v.rent)) (situation_of (booked x y w b') s' p'')
   settled_by v b' s' p'' is (left, found, spent) e none blank = record {
     answered = inl (left, accepted_answer g now_booked (dispatches s house) (prices_by s house) v found);
     next = λ i. record { closed = (now i).closed; book = none i; dispatch = blank_dispatches s' blank i; prices = blank_prices s' blank i; tries = (now i).tries; settled_hours = (now i).settled; account = accounts i; rent_account = rents i };
   }
     where
-      now : p'' ≡ record { closed = false; tries = 0; settled = suc p.settled; zero = p.zero +ℤ v.zero; one = p.one +ℤ v.one; rent = p.rent +ℤ v.rent }
-      now = e ∙ ap (λ q. settled_page q v.zero v.one v.rent) spent ∙ settled_is p v.zero v.one v.rent is
+      now : p'' ≡ record { closed = false; tries = 0; settled = suc p.settled; zero = p.zero +ℤ v.amounts.zero; one = p.one +ℤ v.amounts.one; rent = p.rent +ℤ v.rent }
+      now = e ∙ ap (λ q. settled_page q v.amounts.zero v.amounts.one v.rent) spent ∙ settled_is p v.amounts.zero v.amounts.one v.rent is
 
       due : House → House → ℤ
       due caller other = amount_of g now_booked (dispatches s caller) (prices_by s caller) (house_number other)
@@ -117,10 +117,10 @@ module _ {X Y W P Q R : Type 0} (x : ListMeaning X P) (y : ListMeaning Y Q) (w :
       rents : p''.rent ≡ p.rent +ℤ rent_of g now_booked (dispatches s (numbered (house_number house))) (prices_by s (numbered (house_number house)))
       rents = ap (λ q. q.rent) now ∙ ap (λ a. p.rent +ℤ a) (found.2 ∙ ap (λ h. rent_of g now_booked (dispatches s h) (prices_by s h)) (sym (numbered_is house)))
 
-  pub settled_so : (v : Found.Verdict) (sheet : Sheet) (reply : Reply) (zero one rent : ℤ) (b' : Book X Y W) (s' : Sheets) (p'' : Page)
-      → reply ≡ Accepted v.welfare v.rent → zero ≡ v.zero → one ≡ v.one → rent ≡ v.rent → p.closed ≡ true → Judges sheet (Ok v)
-      → p'' ≡ settled_page p' zero one rent → booked x y w b' ≡ book_of [] [] [] → Blank s'
+  pub settled_so : (v : Found.Verdict) (sheet : Sheet) (reply : Reply) (rent : ℤ) (b' : Book X Y W) (s' : Sheets) (p'' : Page)
+      → reply ≡ Accepted v.welfare v.rent → rent ≡ v.rent → p.closed ≡ true → Judges sheet (Ok v)
+      → p'' ≡ settled_page p' v.amounts.zero v.amounts.one rent → booked x y w b' ≡ book_of [] [] [] → Blank s'
       → Handled (kinds_of x y w) g house (Settle (house_number house)) (situation_of now_booked s p) (Ok reply) (situation_of (booked x y w b') s' p'')
-  settled_so v sheet reply zero one rent b' s' p'' is e0 e1 er closed judges e none blank =
+  settled_so v sheet reply rent b' s' p'' is er closed judges e none blank =
       subst (λ r. Handled (kinds_of x y w) g house (Settle (house_number house)) (situation_of now_booked s p) (Ok r) (situation_of (booked x y w b') s' p'')) (sym is)
-      (settled_by v b' s' p'' closed (own_sheet sheet (Ok v) judges) (e ∙ (λ i. settled_page p' (e0 i) (e1 i) (er i))) none blank)
+      (settled_by v b' s' p'' closed (own_sheet sheet (Ok v) judges) (e ∙ ap (settled_page p' v.amounts.zero v.amounts.one) er) none blank)

@@ -14,12 +14,10 @@ returns g c =
     let b = c.args.self.now in
     let b' = c.clear.new.self in
     let v = c.in_ok-verdict.verdict in
-    let rent-fits : SFits w64 v.rent = search rules in
-    let zero-fits : SFits w64 v.zero = search rules in
-    let one-fits : SFits w64 v.one = search rules in (
+    let rent-fits : SFits w64 v.rent = search rules in (
       c.clear.ensures.kept.0,
       settled_so g.X.OrderList g.Y.OrderList g.W.OrderList (g.N.Network.grid b.network) c.args.house b.book b.sheets (page b.ledger) (page c.judged.new.ledger) v c.of-sheet.result.now c.accepted.result
-          (to_z w64 (of_z w64 v.zero)) (to_z w64 (of_z w64 v.one)) (to_z w64 (of_z w64 v.rent)) b'.book b'.sheets (page b'.ledger)
-          c.accepted.ensures (to_z-of_z w64 v.zero zero-fits) (to_z-of_z w64 v.one one-fits) (to_z-of_z w64 v.rent rent-fits) c.requires (c.of-sheet.ensures, c.in_ok-verdict.ensures)
+          (to_z w64 (of_z w64 v.rent)) b'.book b'.sheets (page b'.ledger)
+          c.accepted.ensures (to_z-of_z w64 v.rent rent-fits) c.requires (c.of-sheet.ensures, c.in_ok-verdict.ensures)
           (ap page c.clear.ensures.kept.1 ∙ c.settle.ensures) c.clear.ensures.orders c.clear.ensures.sheets,
     )
