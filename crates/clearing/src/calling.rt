@@ -61,6 +61,7 @@ where
         }
     }
 
+    // Each clause names the four meanings: only a clause can name the ghost members of a bound.
     /// Makes a call: the reply to it, or why it is refused. A refused call alters nothing, but that a judged sheet uses up a try.
     pub fn call(&mut self, call: Call<X::Wish, Y::Wish, W::Wish>) -> Result<Reply, Refusal>
         ensures outcome { ComesOut N.Network X.OrderList Y.OrderList W.OrderList call self.old result self.new }

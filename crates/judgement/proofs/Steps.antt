@@ -12,12 +12,9 @@ use Rattle.flows.specs.Flows.{Priced, array_flow, array_total}
 use Rattle.places.specs.Places.{AtEase, EachOrder, FirstOrder, OfOrder}
 use Rattle.judgement.specs.Verdicts.{Nets, Ruled}
 use Rattle.judgement.proofs.Ties.{injections_tie, flow_tie, content_tie, content_back}
-use Rattle.judgement.proofs.Verdicts.{MetBelow, quantities_met, quantity_first, balance_met, balance_first, flows_met, flow_first, zone_prices_met, zone_price_first, bindings_met, binding_first, contentment_first, all_met}
+use Rattle.judgement.proofs.Verdicts.{MetBelow, quantities_met, balance_met, balance_first, flows_met, flow_first, zone_prices_met, zone_price_first, bindings_met, binding_first, contentment_first, all_met}
 
 module _ (g : Grid) (b : Book) (d : Dispatch) (p : Prices) where
-  pub quantity_broken : (broken : Broken) → EachOrder Quantity (OfOrder b d Takes) (Err broken) → FirstBroken g b d p broken
-  quantity_broken broken (place, is, (lists, before, fails)) = subst (FirstBroken g b d p) (sym is) (quantity_first g b d p place.0 place.1 lists before fails)
-
   module _ (few : g.zones ≤ 24) (nets : List ℤ) (found : Nets g.zones b d nets) (takes : FirstOrder (OfOrder b d Takes) None) where
     pub balance_broken : (array_total nets ≡ pos 0 → ⊥) → FirstBroken g b d p Balance
     unfolding Balanced

@@ -27,6 +27,7 @@ pub(crate) fn proceeds<L: OrderList>(
     ensures bound { unsigned_abs result ≤ 4294967296 * quantity }
 {
     let mut total: i64 = 0;
+    // A loop: the library's sum asks that the total fits, which only the bounds of the terms say.
     for (zone, price) in prices.iter().enumerate() {
         total += paid(*price, list.injection(number, quantity, zone));
     }
