@@ -28,7 +28,7 @@ impl Accounts {
         let hours = self.settled;
         Accounts {
             settled: hours + 1,
-            // One by one: a closure would need clauses of its own to say what each house paid.
+            // A line for each house: there are just two.
             paid: PerHouse {
                 zero: sum(self.paid.zero, hours, amounts.zero),
                 one: sum(self.paid.one, hours, amounts.one),
