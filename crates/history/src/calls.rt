@@ -23,7 +23,7 @@ pub enum Filling {
 }
 
 /// A call, with the number of the house that makes it.
-// The parts stand flat in each call, list and number too, as a caller in C hands them in one by one.
+// The house stands in each call, and list and number apart: no fact ties them, and a struct would only add a name to each clause.
 #[derive(Clone, Copy, PartialEq, Eq, Debug)]
 pub enum Call<P, Q, R> {
     /// Enters an order.

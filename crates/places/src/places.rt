@@ -30,7 +30,7 @@ fn first_in<L: OrderList, R: Rule>(
         sheet.quantity(usize::from(index), *number),
     ));
     match failing {
-        // Nothing is lost: a list has at most 1000 orders.
+        // Nothing is lost: a list has at most 512 orders.
         Some(number) => Err(rule.broken(index, number as u16)),
         None => Ok(()),
     }
