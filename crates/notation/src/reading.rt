@@ -102,7 +102,7 @@ pub fn to_bytes(heap: Global, text: &[u8]) -> Result<Vec<u8>, TextFault>
     let mut bytes = Vec::new(heap);
     let mut line: u32 = 1;
     let mut at = 0;
-    // Each piece, with its comment, says where the next one begins.
+    // Not by `split`: a comment hides semicolons, so that lines and the pieces of each would be two loops and a clause more.
     'pieces: while at < text.len() {
         let end = find_from(text, at, ends_command);
         add_piece(heap, &mut bytes, &text[at..end]).map_err(|unread| match unread {
