@@ -31,7 +31,7 @@ fn net_injections<N: Network, X: OrderList, Y: OrderList, W: OrderList>(
     let mut nets = [0i32; MOST_ZONES];
     // By index: with `iter_mut` over the first places it stays open what the array holds once the rest follows them.
     for zone in 0..network.zones() {
-        // Nothing is lost: at most 30 million kWh are standing.
+        // Nothing is lost: a net injection is at most 60 million kWh.
         nets[zone] = sum_of(book, sheet, &Injection { zone }) as i32;
     }
     nets
