@@ -1,2 +1,1 @@
 mod Following
-mod Refusing

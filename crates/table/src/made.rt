@@ -28,7 +28,7 @@ impl Table {
     /// Adds a line after the others: refused where it has a sensitivity for a zone that is not there, else where a number is out of range, else where no
     /// place is left.
     pub fn add(&mut self, limit: u32, sensitivities: [i16; MOST_ZONES]) -> Result<(), Fault>
-        ensures { Answered result (OfZones (table_grid self.old).zones sensitivities) (NumbersInRange limit sensitivities) (length (table_grid self.old).lines < most_lines) (λ _. ((table_grid self.new).zones ≡ (table_grid self.old).zones) × ((table_grid self.new).lines ≡ (table_grid self.old).lines ++ line_of limit sensitivities ∷ [])) ((self.new.zones ≡ self.old.zones) × (self.new.rows ≡ self.old.rows)) }
+        ensures { Answered result (OfZones (table_grid self.old).zones sensitivities) (NumbersInRange limit sensitivities) (length (table_grid self.old).lines < most_lines) (λ _. ((table_grid self.new).zones ≡ (table_grid self.old).zones) × ((table_grid self.new).lines ≡ (table_grid self.old).lines ++ line_of limit sensitivities ∷ [])) (self.new ≡ self.old) }
     {
         // Limit and sensitivities come apart: they are a row only where the zones of the network are known.
         let row = Row::new(self.zones, limit, sensitivities)?;
