@@ -11,7 +11,7 @@ ghost use Rattle.parsing.specs.Numbers.{Means};
 use crate::counts::exactly;
 use crate::rows::limit_and_row;
 use stream::Command;
-pub use wrong::Wrong;
+pub use wrong::{Wrong, reason};
 
 /// The command that a letter and numbers mean.
 // Three groups, those of the format, as in `stream::lengths`. Not one reader with decoding's: here the count is asked before the widths, and a fault says which.

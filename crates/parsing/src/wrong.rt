@@ -23,17 +23,24 @@ pub enum Wrong {
     DoesNotFit,
 }
 
+/// In words, what is wrong with a command as it is written down.
+pub fn reason(wrong: Wrong) -> &'static str
+    ensures { result.now ≡ in_words wrong }
+{
+    match wrong {
+        Wrong::NoCommand => "no command has this name",
+        Wrong::NoNumber => "an operand is no number",
+        Wrong::TooFew => "operands are missing",
+        Wrong::TooMany => "there are too many operands",
+        Wrong::DoesNotFit => "an operand does not fit its width",
+    }
+}
+
 impl fmt::Display for Wrong {
     ghost output = { λ wrong. Some (in_words wrong) };
 
     fn fmt<W: fmt::Write>(&self, f: &mut fmt::Formatter<W>) -> fmt::Result {
-        match self {
-            Wrong::NoCommand => write!(f, "no command has this name"),
-            Wrong::NoNumber => write!(f, "an operand is no number"),
-            Wrong::TooFew => write!(f, "operands are missing"),
-            Wrong::TooMany => write!(f, "there are too many operands"),
-            Wrong::DoesNotFit => write!(f, "an operand does not fit its width"),
-        }
+        f.write_str(reason(*self))
     }
 }
 
