@@ -72,7 +72,7 @@ fn judged(rounds: u32) -> Option<u32> {
     sheet.fill_lambda(2_000_000).ok()?;
     let mut accepted = 0u32;
     for _ in 0..rounds {
-        if judge(&table, &book, &sheet).is_ok() {
+        if judge(&table, &book.first, &book.second, &book.third, &sheet).is_ok() {
             accepted = accepted.saturating_add(1);
         }
     }

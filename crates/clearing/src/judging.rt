@@ -24,7 +24,7 @@ pub(crate) fn judged<N: Network, X: OrderList, Y: OrderList, W: OrderList>(
     ensures { Spent (N.Network.grid network.now) (booked X.OrderList Y.OrderList W.OrderList book.now) (dispatch_of sheet.now) (prices_of sheet.now) (page ledger.old) result (page ledger.new) }
 {
     ledger.spend_try()?;
-    let verdict = judge(network, book, sheet)?;
+    let verdict = judge(network, &book.first, &book.second, &book.third, sheet)?;
     Ok(verdict)
 }
 

@@ -1,7 +1,7 @@
 -- From what each step of the judgement finds to its verdict.
 use Rattle.std.proofs.Common.{◌≡◌, ℕ, ◌≤◌, List, ℤ, pos, None, Ok, Err, sym, ◌∙◌, subst}
 use Rattle.auction.specs.declared.Broken.{Broken}
-use Rattle.auction.specs.declared.Broken.TheVariants.{Quantity, Balance, Flow, Binding, Contentment}
+use Rattle.auction.specs.declared.Broken.TheVariants.{Balance, Flow, Binding, Contentment}
 use Rattle.auction.specs.Limits.{WithinLimit, Binds}
 use Rattle.auction.specs.Grids.{Grid, line_count, limit_at}
 use Rattle.auction.specs.Hours.{Book, Dispatch, Prices, Takes, Balanced, flow_over}

@@ -3,12 +3,12 @@
 ghost use Rattle.std.specs.Prelude.{◌≡◌, ◌*◌, ◌≤◌, unsigned_abs};
 ghost use Rattle.auction.specs.Bounds.{most_kwh};
 ghost use Rattle.auction.specs.Hours.{over_orders};
-ghost use Rattle.orders.specs.Books.{booked};
+ghost use Rattle.orders.specs.Books.{lent};
 ghost use Rattle.sheets.specs.Proposals.{dispatch_of};
 ghost use Rattle.judgement.specs.Parts.{AllTake, Taken, list_sum};
 
 use crate::measures::Measure;
-use orders::{Book, OrderList};
+use orders::{LentBook, OrderList};
 use sheets::Sheet;
 
 /// The sum over the orders of one list.
@@ -27,14 +27,14 @@ fn sum_in<L: OrderList, M: Measure>(list: &L, index: usize, sheet: &Sheet, measu
 
 /// The sum over the orders of all three lists.
 pub(crate) fn sum_of<X: OrderList, Y: OrderList, W: OrderList, M: Measure>(
-    book: &Book<X, Y, W>,
+    book: &LentBook<'_, X, Y, W>,
     sheet: &Sheet,
     measure: &M,
 ) -> i64
-    requires { Taken (booked X.OrderList Y.OrderList W.OrderList book.now) (dispatch_of sheet.now) }
-    ensures value { result ≡ over_orders (booked X.OrderList Y.OrderList W.OrderList book.now) (dispatch_of sheet.now) (M.Measure.term measure.now) }
+    requires { Taken (lent X.OrderList Y.OrderList W.OrderList book.now) (dispatch_of sheet.now) }
+    ensures value { result ≡ over_orders (lent X.OrderList Y.OrderList W.OrderList book.now) (dispatch_of sheet.now) (M.Measure.term measure.now) }
     ensures bound { unsigned_abs result ≤ M.Measure.rate measure.now * 30000000 }
 {
-    let both = sum_in(&book.first, 0, sheet, measure) + sum_in(&book.second, 1, sheet, measure);
-    both + sum_in(&book.third, 2, sheet, measure)
+    let both = sum_in(book.first, 0, sheet, measure) + sum_in(book.second, 1, sheet, measure);
+    both + sum_in(book.third, 2, sheet, measure)
 }

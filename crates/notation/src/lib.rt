@@ -8,6 +8,7 @@ ghost use Rattle.std.specs.Prelude.{take, IfOk, string_bytes};
 ghost use Rattle.notation.specs.Showing.{Shown};
 
 use decoding::decode;
+pub use parsing::reason;
 pub use reading::{TextFault, to_bytes};
 use std::alloc::{AllocError, Global};
 use stream::Reader;

@@ -13,7 +13,7 @@ mod book;
 
 pub use auction::bounds::MOST_ZONES;
 use auction::{Fault, House};
-pub use book::Book;
+pub use book::{Book, LentBook};
 
 /// What the box asks of a list of orders. A query never refuses and alters nothing; beyond the list it answers 0, false or not content.
 pub trait OrderList {

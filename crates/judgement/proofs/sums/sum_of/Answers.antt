@@ -13,7 +13,7 @@ sum g c =
 pub returns-clause-value : goal.returns-clause-value
 returns-clause-value g c =
     sum g c ∙ (λ i. (c.sum_in.ensures.value i +ℤ c.sum_in-2.ensures.value i) +ℤ c.sum_in-3.ensures.value i)
-    ∙ three_lists (g.X.OrderList.entries c.args.book.now.first) (g.Y.OrderList.entries c.args.book.now.second) (g.W.OrderList.entries c.args.book.now.third) (dispatch_of c.args.sheet.now) (g.M.Measure.term c.args.measure.now)
+    ∙ three_lists (g.X.OrderList.entries c.args.book.now.first.now) (g.Y.OrderList.entries c.args.book.now.second.now) (g.W.OrderList.entries c.args.book.now.third.now) (dispatch_of c.args.sheet.now) (g.M.Measure.term c.args.measure.now)
 
 pub returns-clause-bound : goal.returns-clause-bound
 returns-clause-bound g c =
