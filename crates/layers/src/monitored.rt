@@ -12,7 +12,7 @@ ghost use Rattle.layers.specs.Piled.{watched_few_lines, watched_limited, watched
 
 use auction::Fault;
 use auction::bounds::{MOST_LINES, MOST_MONITORED, MOST_ZONES};
-use network::{Network, Row, RowList};
+use network::{Network, Row, RowList, no_rows};
 
 // The network below and the rows are held by value: no memory is asked for.
 /// The lines below come first, then the watched ones, 60 in all.
@@ -29,7 +29,7 @@ impl<N: Network> Monitored<N> {
         ensures none { lines_in result.watched ≡ [] }
         ensures same { (monitored_grid N.Network.grid result).lines ≡ (N.Network.grid below).lines }
     {
-        let watched = RowList::new(Row::blank());
+        let watched = no_rows();
         Monitored { below, watched }
     }
 

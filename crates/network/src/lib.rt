@@ -11,7 +11,7 @@ mod row;
 mod rows;
 
 pub use auction::bounds::{MOST_KWH, MOST_LINES, MOST_SENSITIVITY, MOST_ZONES};
-pub use list::RowList;
+pub use list::{RowList, no_rows, row_at};
 pub use row::Row;
 
 /// A network: its zones, and its lines with their limits and sensitivities.

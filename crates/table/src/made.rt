@@ -10,7 +10,7 @@ ghost use Rattle.table.specs.Tables.{table_grid, ZonesExist};
 use super::Table;
 use auction::Fault;
 use auction::bounds::MOST_ZONES;
-use network::{Row, RowList};
+use network::{Row, no_rows};
 
 impl Table {
     /// So many zones, and no line yet: refused where there cannot be so many.
@@ -21,7 +21,7 @@ impl Table {
         if !(1..=MOST_ZONES).contains(&zones) {
             return Err(Fault::Missing);
         }
-        let rows = RowList::new(Row::blank());
+        let rows = no_rows();
         Ok(Table { zones, rows })
     }
 
