@@ -1,5 +1,5 @@
 -- Numbers of 64 bits that are small, as they go through casts and products.
-use Rattle.std.proofs.Common.{◌≡◌, ℕ, ◌*◌, ◌^◌, ◌<◌, ◌≤◌, ℤ, pos, ◌*ℤ◌, nat_abs, arith, w32, w64, to_z, of_z}
+use Rattle.std.proofs.Common.{◌≡◌, ℕ, ◌*◌, ◌^◌, ◌<◌, ◌≤◌, ℤ, pos, ◌*ℤ◌, nat_abs, arith, w32, w64, SFits, to_z, of_z}
 use borrow.Author.Differences.{ints}
 use lib.Signed.{mag}
 
@@ -8,5 +8,8 @@ pub narrowed : (x : ℤ) → mag x < 2 ^ 63 → nat_abs (to_z w64 (of_z w64 x)) 
 narrowed x ok small = omega (arith, ints)
 
 -- a thousand times a natural number
+pub thousand_fits : (r : ℤ) (n : ℕ) → r ≡ pos n → n ≤ 10000000000000 → SFits w64 (pos 1000 *ℤ to_z w64 (of_z w64 r))
+thousand_fits r n e h = omega (arith, ints)
+
 pub thousand_is : (r : ℤ) (n : ℕ) → r ≡ pos n → n ≤ 10000000000000 → to_z w64 (of_z w64 (pos 1000 *ℤ to_z w64 (of_z w64 r))) ≡ pos (1000 * n)
 thousand_is r n e h = omega (arith, ints)

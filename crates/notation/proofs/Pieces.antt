@@ -1,5 +1,5 @@
 -- How the places that a text was cut at make up what it writes.
-use Rattle.std.proofs.Common.{◌≡◌, ℕ, zero, suc, ◌+◌, ◌-◌, ◌<◌, ◌≤◌, Bool, true, false, not, ◌||◌, eqb, List, [], ◌∷◌, ◌++◌, length, get_or, take, drop, ℤ, MatchBool, sym, refl, ap, ◌∙◌, subst, inl, inr, append_assoc, arith, eqb-true}
+use Rattle.std.proofs.Common.{◌≡◌, ℕ, zero, suc, ◌+◌, ◌-◌, ◌<◌, ◌≤◌, Bool, true, false, not, ◌||◌, eqb, List, [], ◌∷◌, ◌++◌, length, get_or, take, drop, ℤ, MatchBool, sym, refl, ap, ◌∙◌, subst, inl, inr, append_assoc, arith, ne_eqb, eqb-true}
 use borrow.Author.Tests.{eqb-false}
 use Rattle.std.proofs.lemmas.List.{drop_all, drop-drop, drop_more, get_or-drop, get_or_past, get_or-take, length-take, length-append, take-append-drop, append-nil}
 use Rattle.std.proofs.Math.Seq.{get_or-append_seam}
@@ -83,6 +83,10 @@ one_piece piece start end numbers meant stop there word one ns means =
     let ends : WordEnds (drop (start + 1) piece) = subst (λ (i : ℕ). WordEnds (drop i piece)) one (word_ends piece start end word) in
     let here : Piece (drop start piece) (meant ∷ []) = subst (λ (l : List ℕ). Piece l (meant ∷ [])) (sym (drop_more piece start 0 there)) (command (get_or piece start 0) (drop (start + 1) piece) numbers meant ends rest means) in
     up_to_word (λ (l : List ℕ). Piece l (meant ∷ [])) (λ b l e p. leading_blank b l (meant ∷ []) e p) piece 0 start (omega arith) stop here
+
+-- no comment begins at another byte
+pub no_comment : (X : Type 0) (byte at : ℕ) → (byte ≡ 35 → ⊥) → MatchBool (eqb byte 35) X (at ≡ at)
+no_comment X byte at other = subst (λ (b : Bool). MatchBool b X (at ≡ at)) (sym (ne_eqb byte 35 other)) refl
 
 -- The commands of a text, as far as they were read: whatever the rest writes comes after those that are done.
 pub record Going (text : List ℕ) (at : ℕ) (done : List Command) : Type 0 where

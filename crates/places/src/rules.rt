@@ -1,6 +1,6 @@
 //! What is asked of each order at its quantity, whatever its kind.
 
-ghost use Rattle.std.specs.Prelude.{◌≡◌, ℕ, ◌<◌, length, Decides};
+ghost use Rattle.std.specs.Prelude.{◌≡◌, ℕ, Decides};
 ghost use Rattle.auction.specs.declared.Broken.{Broken};
 ghost use Rattle.auction.specs.declared.Broken.TheVariants.{Quantity, Contentment};
 ghost use Rattle.auction.specs.Hours.{Entry, Takes};
@@ -21,7 +21,7 @@ pub(crate) trait Rule {
 
     /// Does the order with this number meet it at this quantity?
     fn met<L: OrderList>(&self, list: &L, number: usize, quantity: u32) -> bool
-        ensures { number < length (L.OrderList.entries list.now) → Decides result (asks self.now (entry (L.OrderList.entries list.now) number) quantity) };
+        ensures { Decides result (asks self.now (entry (L.OrderList.entries list.now) number) quantity) };
 
     /// The rule, broken at the order with this number in this list.
     fn broken(&self, list: u8, number: u16) -> Broken

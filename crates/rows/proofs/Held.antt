@@ -1,5 +1,5 @@
 -- Rows that are entered, withdrawn and read.
-use Rattle.std.proofs.Common.{◌≡◌, ℕ, zero, suc, ◌+◌, ◌<◌, true, false, cond, List, [], ◌∷◌, ◌++◌, length, All, slice_get, slice_set, Ok, Err, Result, Some, None, sym, refl, ap, subst, arith}
+use Rattle.std.proofs.Common.{◌≡◌, ℕ, zero, suc, ◌+◌, ◌<◌, true, false, cond, List, [], ◌∷◌, ◌++◌, length, get_or, take, All, slice_get, slice_set, Ok, Err, Result, Some, None, sym, refl, ap, subst, arith}
 use Rattle.auction.specs.declared.Fault.{Fault}
 use Rattle.auction.specs.declared.Fault.TheVariants.{Missing, OutOfRange, NoPlace}
 use Rattle.auction.specs.Refusals.{Answered, Always}
@@ -7,7 +7,7 @@ use Rattle.rows.specs.declared.row.Row.{Row}
 use Rattle.rows.specs.Kwh.{Ranged, no_row, row_kwh, rows_kwh}
 use Rattle.rows.specs.Rows.{standing_so, withdrawn, rows_without}
 
-kwh_push : (rs : List Row) (r : Row) → rows_kwh (rs ++ r ∷ []) ≡ rows_kwh rs + row_kwh r
+pub kwh_push : (rs : List Row) (r : Row) → rows_kwh (rs ++ r ∷ []) ≡ rows_kwh rs + row_kwh r
 kwh_push [] r = omega arith
 kwh_push (x ∷ rs) r = let e = kwh_push rs r in omega arith
 
@@ -39,6 +39,13 @@ pub without_set : (rs : List Row) (n : ℕ) (r : Row) → Some r ≡ slice_get r
 without_set [] n r h = refl
 without_set (x ∷ rs) zero r h = let e : r ≡ x = cc in ap (λ s. withdrawn s ∷ rs) e
 without_set (x ∷ rs) (suc n) r h = ap (λ s. x ∷ s) (without_set rs n r h)
+
+-- what is withdrawn no longer counts
+pub kwh_without : (c : ℕ) (rs : List Row) (n : ℕ) (d : Row) → n < c → n < length rs → rows_kwh (rows_without (take c rs) n) + row_kwh (get_or rs n d) ≡ rows_kwh (take c rs)
+kwh_without zero rs n d h k = absurd (omega arith)
+kwh_without (suc c) [] n d h k = absurd (omega arith)
+kwh_without (suc c) (r ∷ rs) zero d h k = omega arith
+kwh_without (suc c) (r ∷ rs) (suc n) d h k = let e : rows_kwh (rows_without (take c rs) n) + row_kwh (get_or rs n d) ≡ rows_kwh (take c rs) = kwh_without c rs n d (omega arith) (omega arith) in omega arith
 
 -- a row that does not stand stays as it is
 still : (r : Row) → r.standing ≡ false → withdrawn r ≡ r
