@@ -10,6 +10,9 @@ use auction::bounds::MOST_ZONES;
 use std::alloc::{AllocError, Global};
 use stream::Command;
 
+/// The bytes of the longest command: a letter, a limit and a row.
+const LONGEST: usize = 5 + 2 * MOST_ZONES;
+
 /// Writes a number's two bytes.
 // `two` and `four` stay apart: no trait of std joins the number types' `to_le_bytes`, and one of `num_traits` would be a crate for two lines.
 #[tactic(auto, unfolding(stream::specs::Spelling::le16))]
@@ -152,7 +155,9 @@ fn sheet_operands(bytes: &mut Vec<u8>, command: &Command) -> Result<(), AllocErr
 pub fn encode(heap: Global, command: &Command) -> Result<Vec<u8>, AllocError>
     ensures { IfOk result (λ v. v.items ≡ spelled command.now) }
 {
-    let mut bytes = Vec::from_slice(heap, &[command.letter()])?;
+    // Place for all of it at once: a vector that grows at each operand is allocated anew for most commands.
+    let mut bytes = Vec::with_capacity(heap, LONGEST)?;
+    bytes.push(command.letter())?;
     network_operands(&mut bytes, command)?;
     hour_operands(&mut bytes, command)?;
     sheet_operands(&mut bytes, command)?;
