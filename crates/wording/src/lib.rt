@@ -18,7 +18,8 @@ impl fmt::Display for Numbers<'_> {
 
     fn fmt<W: fmt::Write>(&self, f: &mut fmt::Formatter<W>) -> fmt::Result {
         for number in self.0 {
-            write!(f, " {number}")?;
+            f.write_str(" ")?;
+            f.write(*number)?;
         }
         Ok(())
     }
@@ -30,9 +31,11 @@ fn text_line(heap: Global, letter: u8, numbers: &[i64]) -> Result<String, AllocE
     requires { letter < 128 }
     ensures { IfOk result (λ s. string_bytes s ≡ letter ∷ after_blanks numbers.now) }
 {
-    let letter = char::from(letter);
-    let numbers = Numbers(numbers);
-    format!(in heap; "{letter}{numbers}\n")
+    // The letter by `push`: as a hole of a format it goes through a formatter of its own, for each line.
+    let mut line = String::new(heap);
+    line.push(char::from(letter))?;
+    writeln!(line, "{}", Numbers(numbers))?;
+    Ok(line)
 }
 
 /// A letter, a limit and a row of sensitivities on a line of their own.
