@@ -7,7 +7,7 @@ use Rattle.layers.proofs.monitored.Monitored.new.Goals as goal
 pub returns : goal.returns
 returns g c =
     let below = c.args.below in
-    let none = ap (λ (rows : List Row). map row_line rows) c.new-watched.ensures in
+    let none = ap (λ (rows : List Row). map row_line rows) c.new-watched.ensures.empty in
     record {
       kept = refl;
       none = none;
