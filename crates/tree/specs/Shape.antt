@@ -2,7 +2,7 @@
 use Rattle.std.specs.Prelude.{◌≡◌, ℕ, ◌+◌, ◌-◌, ◌*◌, ◌/◌, ◌%◌, ◌<◌, ◌≤◌, true, false, List, length, get_or, take, set, pos, neg_ℤ, ◌≢◌, nat_eq, nat_lt, slice_index_or, slice_set, unsigned_abs, refl}
 use Rattle.std.proofs.Common.{sym, ap, subst, ◌∙◌, ⊎_elim, arith, eq-eqb}
 use Rattle.std.proofs.lemmas.List.FromFn.{length-map-range_with_len, get_or-map-range_with_len}
-use Rattle.std.proofs.lemmas.List.{get_or_past, get_or-take, get_or-set_same, get_or-set_other, length-take, length-take-le}
+use Rattle.std.proofs.lemmas.List.{get_or_past, get_or-take, get_or-set_same, get_or-set_other, length-take-le}
 use Rattle.std.proofs.lemmas.Bool.{cases_lt, cases_eq}
 use Rattle.std.proofs.lemmas.Bool.Decides.{nat_tests}
 use Rattle.std.proofs.lemmas.Int.{ints}
@@ -12,7 +12,7 @@ use Rattle.tree.specs.declared.grown.Link.{Link}
 use Rattle.tree.specs.declared.grown.Tree.{Tree}
 use Rattle.tree.specs.Links.{most_links, no_link, zone_count, Descends}
 use Rattle.tree.specs.Trees.{links_of, share, line_to_parent, line_to_child, tree_line, tree_lines, tree_grid, TreeShaped, Shaped}
-use Rattle.tree.specs.Descent.{Rooted, share_below, share_elsewhere, share_in_range}
+use Rattle.tree.specs.Descent.{Rooted, rooted_take, share_below, share_elsewhere, share_in_range}
 
 pub lines_is : (links : List Link) → line_count (tree_grid links) ≡ 2 * length links
 unfolding tree_lines
@@ -120,21 +120,10 @@ pub tree_few_lines : (t : Tree) → line_count (tree_grid (links_of t)) ≤ most
 tree_few_lines t = omega (arith, lines_is (links_of t), link_count t)
 
 pub rooted : (t : Tree) → Rooted (links_of t)
-rooted t = t.parents
+rooted t = rooted_take t.links.count t.links.rows t.parents
 
 pub shaped_tree : (t : Tree) → Shaped t
 shaped_tree t = tree_shaped (links_of t) (rooted t)
-
-pub limit_in_range : (t : Tree) (l : ℕ) → limit_at (tree_grid (links_of t)) l ≤ most_kwh
-limit_in_range t l =
-    ⊎_elim
-    (λ within.
-    ⊎_elim
-    (λ even. rw (limit_to_parent (links_of t) l within even) (t.limited_to_parent (l / 2)))
-    (λ odd. rw (limit_to_child (links_of t) l within odd) (t.limited_to_child (l / 2)))
-    (cases_eq (l % 2) 0))
-    (λ past. omega (arith, ap (λ (line : Line). line.limit) (line_past (links_of t) l past)))
-    (cases_lt l (2 * length (links_of t)))
 
 -- the link that is read in the array is that of the tree
 pub link_read : (t : Tree) (i : ℕ) → i < t.links.count → slice_index_or (links_of t) i no_link ≡ slice_index_or t.links.rows i no_link
@@ -148,19 +137,24 @@ each_written P links i new each here within k =
     (λ other. rw (get_or-set_other links i k new no_link other) (each k))
     (cases_eq k i)
 
--- the tree with one more link
-pub rooted_written : (t : Tree) (new : Link) → new.parent ≤ t.links.count → t.links.count < most_links → Rooted (take (t.links.count + 1) (slice_set t.links.rows t.links.count new))
-rooted_written t new smaller place i =
-    let written = set t.links.rows t.links.count new in
+pub limit_in_range : (t : Tree) (l : ℕ) → limit_at (tree_grid (links_of t)) l ≤ most_kwh
+limit_in_range t l =
     ⊎_elim
     (λ within.
-    rw (get_or-take (t.links.count + 1) written i no_link within) (
+    let read = link_read t (l / 2) (omega (arith, link_count t)) in
     ⊎_elim
-    (λ e. rw (e, get_or-set_same t.links.rows t.links.count new no_link (omega arith)) smaller)
-    (λ other. rw (get_or-set_other t.links.rows t.links.count i new no_link other) (rw (← link_read t i (omega arith)) (rooted t i)))
-    (cases_eq i t.links.count)))
-    (λ past. rw (get_or_past (take (t.links.count + 1) written) i no_link (omega (arith, length-take (t.links.count + 1) written))) (omega arith))
-    (cases_lt i (t.links.count + 1))
+    (λ even. rw (limit_to_parent (links_of t) l within even, read) (t.limited_to_parent (l / 2)))
+    (λ odd. rw (limit_to_child (links_of t) l within odd, read) (t.limited_to_child (l / 2)))
+    (cases_eq (l % 2) 0))
+    (λ past. omega (arith, ap (λ (line : Line). line.limit) (line_past (links_of t) l past)))
+    (cases_lt l (2 * length (links_of t)))
+
+-- the tree with one more link, with all the places of its array, and its links alone
+pub rooted_written : (t : Tree) (new : Link) → new.parent ≤ t.links.count → t.links.count < most_links → Rooted (slice_set t.links.rows t.links.count new)
+rooted_written t new smaller place = each_written (λ i link. link.parent ≤ i) t.links.rows t.links.count new t.parents smaller (omega arith)
+
+pub rooted_taken : (t : Tree) (new : Link) → new.parent ≤ t.links.count → t.links.count < most_links → Rooted (take (t.links.count + 1) (slice_set t.links.rows t.links.count new))
+rooted_taken t new smaller place = rooted_take (t.links.count + 1) (set t.links.rows t.links.count new) (rooted_written t new smaller place)
 
 pub shaped_written : (t : Tree) (new : Link) → new.parent ≤ t.links.count → t.links.count < most_links → TreeShaped (take (t.links.count + 1) (slice_set t.links.rows t.links.count new)) (tree_grid (take (t.links.count + 1) (slice_set t.links.rows t.links.count new)))
-shaped_written t new smaller place = tree_shaped (take (t.links.count + 1) (set t.links.rows t.links.count new)) (rooted_written t new smaller place)
+shaped_written t new smaller place = tree_shaped (take (t.links.count + 1) (set t.links.rows t.links.count new)) (rooted_taken t new smaller place)

@@ -2,7 +2,6 @@
 
 ghost use Rattle.std.specs.Prelude.{◌≡◌, ℕ, ◌≤◌, slice_index_or};
 ghost use Rattle.auction.specs.Bounds.{most_kwh};
-ghost use Rattle.filled.specs.Lists.{kept};
 ghost use Rattle.tree.specs.Links.{no_link};
 
 use super::MOST_LINKS;
@@ -20,7 +19,7 @@ pub struct Link {
 #[derive(Clone, Copy)]
 pub struct Tree {
     pub(crate) links: Filled<Link, MOST_LINKS>,
-    ghost parents: { (i : ℕ) → (slice_index_or (kept links) i no_link).parent ≤ i },
-    ghost limited_to_parent: { (i : ℕ) → (slice_index_or (kept links) i no_link).to_parent ≤ most_kwh },
-    ghost limited_to_child: { (i : ℕ) → (slice_index_or (kept links) i no_link).to_child ≤ most_kwh },
+    ghost parents: { (i : ℕ) → (slice_index_or links.rows i no_link).parent ≤ i },
+    ghost limited_to_parent: { (i : ℕ) → (slice_index_or links.rows i no_link).to_parent ≤ most_kwh },
+    ghost limited_to_child: { (i : ℕ) → (slice_index_or links.rows i no_link).to_child ≤ most_kwh },
 }

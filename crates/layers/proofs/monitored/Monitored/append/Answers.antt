@@ -10,6 +10,6 @@ returns g c =
     record {
       lines =
           appended (g.N.Network.grid old.below) (kept old.watched) (kept new) c.args.row (new ≡ old.watched) c.push.result (omega arith)
-          c.push.ensures;
+          c.push.ensures.added;
       below = refl;
     }

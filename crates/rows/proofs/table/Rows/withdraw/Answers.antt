@@ -13,7 +13,7 @@ pub returns-then-row : goal.returns-then-row
 returns-then-row c =
     let rows = kept c.args.self.now.rows in
     let there = row_there rows c.args.number c.in-Some.row c.in-Some.ensures in
-    set_done rows (kept c.set.new.self) c.args.number _ _ c.set.result there c.set.ensures ∙ without_set rows c.args.number c.in-Some.row c.in-Some.ensures
+    set_done rows (kept c.set.new.self) c.args.number _ _ c.set.result there c.set.ensures.changed ∙ without_set rows c.args.number c.in-Some.row c.in-Some.ensures
 
 pub returns-else-row : goal.returns-else-row
 returns-else-row c = sym (without_fallen (kept c.args.self.now.rows) c.args.number c.in-Some.row c.in-Some.ensures c.if-row.false)
@@ -31,7 +31,7 @@ invariant_of-self c =
     let before = c.args.self.now in
     let rows = kept before.rows in
     let there = row_there rows _ c.in-Some.row c.in-Some.ensures in
-    let done = set_done rows (kept c.set.new.self) _ _ _ c.set.result there c.set.ensures in
+    let done = set_done rows (kept c.set.new.self) _ _ _ c.set.result there c.set.ensures.changed in
     let left = kwh_after rows (kept c.set.new.self) _ c.in-Some.row _ done c.in-Some.ensures c.if-row.true refl in
     let ranged = row_ranged rows before.ranged _ c.in-Some.row c.in-Some.ensures in
     record {

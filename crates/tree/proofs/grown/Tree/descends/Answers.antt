@@ -13,7 +13,7 @@ loop-at-preserved c =
     let at = c.loop-at.at in
     let child = c.args.child in
     let parent = ap (λ (links : List Link). (get_or links (at - 1) no_link).parent) (sym c.as_slice-links.ensures) ∙ sym c.from-at.ensures in (
-      omega (arith, t.parents (at - 1)),
+      omega (arith, rooted t (at - 1)),
       (λ d. c.loop-at.invariant.1 (from at (omega arith) (subst (Descends (links_of t) child) (sym parent) d))),
       (λ d. subst (Descends (links_of t) child) parent (by_parent (links_of t) child at (λ e. omega arith) (c.loop-at.invariant.2 d))),
     )
