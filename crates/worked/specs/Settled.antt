@@ -4,28 +4,21 @@ use Rattle.auction.specs.declared.House.TheVariants.{Zero, One}
 use Rattle.auction.specs.declared.Broken.TheVariants.{Contentment}
 use Rattle.kinds.specs.declared.linear.ZoneWish.{ZoneWish}
 use Rattle.kinds.specs.declared.transfer.kind.TransferWish.{TransferWish}
-use Rattle.kinds.specs.Wishes.{order_wished, zone_found, terms_fit}
-use Rattle.kinds.specs.contracts.selling.SellingSide.TheImpl.{ghosts as offer}
-use Rattle.kinds.specs.contracts.buying.BuyingSide.TheImpl.{ghosts as bid}
-use Rattle.kinds.specs.contracts.transfer.kind.TransferKind.TheImpl.{ghosts as transfer}
 use Rattle.history.specs.declared.calls.Wish.TheVariants.{First, Second}
 use Rattle.history.specs.declared.calls.Filling.TheVariants.{Quantity, Lambda, ShadowPrice}
 use Rattle.history.specs.declared.calls.Call.{Call}
 use Rattle.history.specs.declared.calls.Call.TheVariants.{Enter, Close, Fill, Try, Settle}
 use Rattle.history.specs.declared.calls.Reply.TheVariants as Says
-use Rattle.history.specs.Events.{Answer, Event, History, Kinds, by_list}
+use Rattle.history.specs.Events.{Answer, Event, History, Kinds}
 use Rattle.history.specs.Words.{account, rent_account, settled_hours}
 use Rattle.history.specs.Right.{Run}
+use Rattle.one_answer.specs.Power.{power_kinds}
 use Rattle.worked.specs.Cases.{accepted, refused}
 use Rattle.worked.specs.Table.{two_zones}
 
--- offers, bids and transfers, as their lists mean them
+-- offers, bids and transfers, as the lists of the program mean them
 abbrev pub kinds : Kinds ZoneWish ZoneWish TransferWish
-kinds = record {
-  order = by_list (order_wished offer.meant) (order_wished bid.meant) transfer.wished;
-  exists = by_list zone_found zone_found transfer.found;
-  ranged = by_list terms_fit terms_fit transfer.fitting;
-}
+kinds = power_kinds
 
 abbrev pub wish : (zone price quantity : ℕ) → ZoneWish
 wish zone price quantity = record { zone = zone; price = price; quantity = quantity }
