@@ -32,9 +32,11 @@ impl<S: Side> Kind for ZoneOrder<S> {
     fn of_row(row: &Row) -> Option<ZoneOrder<S>>
         ensures { MatchOption result (Ranged row.now → ⊥) (λ o. Ranged row.now × (o.zone ≡ row.now.first) × (o.terms.price ≡ row.now.price) × (o.terms.quantity ≡ row.now.quantity)) }
     {
+        // Taken apart: as one copy of eight bytes, price and quantity are shifted out of a word again for each order that is asked.
+        let Terms { price, quantity } = Terms::of_row(row)?;
         Some(ZoneOrder {
             zone: row.first,
-            terms: Terms::of_row(row)?,
+            terms: Terms { price, quantity },
             side: PhantomData,
         })
     }

@@ -54,10 +54,12 @@ impl Kind for Transfer {
     fn of_row(row: &Row) -> Option<Transfer>
         ensures { MatchOption result (Ranged row.now → ⊥) (λ o. Ranged row.now × (o.first ≡ row.now.first) × (o.second ≡ row.now.second) × (o.terms.price ≡ row.now.price) × (o.terms.quantity ≡ row.now.quantity)) }
     {
+        // Taken apart, as in an order with one zone.
+        let Terms { price, quantity } = Terms::of_row(row)?;
         Some(Transfer {
             first: row.first,
             second: row.second,
-            terms: Terms::of_row(row)?,
+            terms: Terms { price, quantity },
         })
     }
 
