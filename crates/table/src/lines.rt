@@ -31,10 +31,13 @@ impl Network for Table {
         if zone >= self.zones {
             return 0;
         }
-        self.rows.get(line).map_or(0, |row| row.sensitivity(zone))
+        self.rows
+            .as_slice()
+            .get(line)
+            .map_or(0, |row| row.sensitivity(zone))
     }
 
     fn limit(&self, line: usize) -> u32 {
-        self.rows.get(line).map_or(0, |row| row.limit())
+        self.rows.as_slice().get(line).map_or(0, |row| row.limit())
     }
 }
