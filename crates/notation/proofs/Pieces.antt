@@ -7,7 +7,7 @@ use Rattle.std.proofs.lemmas.Bool.{cases_lt, false≢true}
 use Rattle.stream.specs.declared.Command.{Command}
 use Rattle.parsing.specs.Numbers.{Means}
 use Rattle.notation.specs.Scanning.{is_blank, is_word, ends_command, ends_line, FirstStop}
-use Rattle.notation.specs.Writing.{WordEnds, LineEnds, Numbers, no_number, skip_blank, Piece, no_command, leading_blank, command, EndsPiece, Writes, last, ended, noted}
+use Rattle.notation.specs.Writing.{AddedByPiece, WordEnds, LineEnds, Numbers, no_number, skip_blank, Piece, no_command, leading_blank, command, EndsPiece, Writes, last, ended, noted}
 
 -- a text from one place on is the stretch up to another place, and the text from there on
 cut : (text : List ℕ) (i j : ℕ) → i ≤ j → take (j - i) (drop i text) ++ drop j text ≡ drop i text
@@ -75,6 +75,14 @@ one_word text rest next word was false found one goes (y, cut_at) blank writes s
 pub blank_piece : (piece : List ℕ) (start : ℕ) → FirstStop piece 0 is_word start → length piece ≤ start → Piece piece []
 blank_piece piece start stop end =
     up_to_word (λ (l : List ℕ). Piece l []) (λ b l e p. leading_blank b l [] e p) piece 0 start (omega arith) stop (subst (λ (l : List ℕ). Piece l []) (sym (drop_all start piece end)) no_command)
+
+-- a piece between two places that are one adds nothing
+pub nothing_added : (text : List ℕ) (at end : ℕ) (before after : List ℕ) → end ≤ at → after ≡ before → AddedByPiece (take (end - at) (drop at text)) before after
+nothing_added text at end before after past same =
+    let nowhere : end - at ≡ 0 = omega (arith, past) in
+    let none : take (end - at) (drop at text) ≡ [] = ap (λ (n : ℕ). take n (drop at text)) nowhere in
+    let first : FirstStop [] 0 is_word 0 = record { onward = omega arith; within = λ h. omega arith; before = λ k from below. absurd (omega arith); here = λ h. absurd (omega arith) } in
+    rw (none) ([], blank_piece [] 0 first (omega arith), same ∙ sym (append-nil before))
 
 -- a piece with a letter as its first word, and numbers after it, writes the command that they mean
 pub one_piece : (piece : List ℕ) (start end : ℕ) (numbers : List ℤ) (meant : Command) → FirstStop piece 0 is_word start → start < length piece → FirstStop piece start is_blank end → end ≡ start + 1 → Numbers (drop end piece) numbers → Means (get_or piece start 0) numbers meant → Piece piece (meant ∷ [])

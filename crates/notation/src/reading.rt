@@ -105,10 +105,13 @@ pub fn to_bytes(heap: Global, text: &[u8]) -> Result<Vec<u8>, TextFault>
     // Not by `split`: a comment hides semicolons, so that lines and the pieces of each would be two loops and a clause more.
     'pieces: while at < text.len() {
         let end = find_from(text, at, ends_command);
-        add_piece(heap, &mut bytes, &text[at..end]).map_err(|unread| match unread {
-            Unread::NoMemory => TextFault::NoMemory,
-            Unread::Because(wrong) => TextFault::Wrong { line, wrong },
-        })?;
+        // Mostly nothing stands between a line's last semicolon and its end.
+        if end > at {
+            add_piece(heap, &mut bytes, &text[at..end]).map_err(|unread| match unread {
+                Unread::NoMemory => TextFault::NoMemory,
+                Unread::Because(wrong) => TextFault::Wrong { line, wrong },
+            })?;
+        }
         let stop = after_comment(text, end);
         if ends_line(text, stop) {
             line = line.saturating_add(1);
