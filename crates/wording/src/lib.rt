@@ -9,6 +9,9 @@ use std::alloc::{AllocError, Global};
 use std::fmt;
 use stream::Command;
 
+/// Most lines have no more bytes.
+const USUAL_LINE: usize = 32;
+
 /// Numbers with a blank before each.
 #[derive(Clone, Copy)]
 struct Numbers<'a>(&'a [i64]);
@@ -31,8 +34,8 @@ fn text_line(heap: Global, letter: u8, numbers: &[i64]) -> Result<String, AllocE
     requires { letter < 128 }
     ensures { IfOk result (λ s. string_bytes s ≡ letter ∷ after_blanks numbers.now) }
 {
-    // The letter by `push`: as a hole of a format it goes through a formatter of its own, for each line.
-    let mut line = String::new(heap);
+    // The letter by `push`: as a hole of a format it goes through a formatter of its own, for each line. Most lines fit without growing.
+    let mut line = String::with_capacity(heap, USUAL_LINE)?;
     line.push(char::from(letter))?;
     writeln!(line, "{}", Numbers(numbers))?;
     Ok(line)
