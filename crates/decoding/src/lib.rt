@@ -20,12 +20,8 @@ pub fn decode(item: &Item<'_>) -> Option<Command>
     ensures { MatchOption result (Whole item.now.letter item.now.operands.now → ⊥) (λ command. spelled command ≡ item.now.letter ∷ item.now.operands.now) }
 {
     // Not one reader with parsing's: there the count is asked before the widths, and a fault says which.
-    // Not by `or`: it asks all three groups, and a command is large. Not by `or_else`: what a closure gave is not seen in the proof.
-    match network_command(item) {
-        Some(command) => Some(command),
-        None => match hour_command(item) {
-            Some(command) => Some(command),
-            None => sheet_command(item),
-        },
-    }
+    // Not `or_else`: what a closure gave is not seen in the proof, and a group reads no more than a byte of another's.
+    network_command(item)
+        .or(hour_command(item))
+        .or(sheet_command(item))
 }
